@@ -1,0 +1,85 @@
+-- What an accepted call has shown, and that a refused one leaves all it was lent. Assumes nothing.
+use Prim.Native.Nat.{ℕ, _≤_}
+use mathlib.Core.Path.{_≡_, refl}
+use mathlib.Core.Bool.{Bool, true, false, true≢false}
+use mathlib.Core.List.{List, _∷_}
+use native.Mathlib.Omega.{arith}
+use borrow.Author.Tests.{leb-true, eqb-true}
+use lib.ListN.{length}
+use lib.Dec.{leb}
+use Rattle.rules.specs.declared.Answer.{Answer}
+use Rattle.rules.specs.declared.Answer.the-variants.{Refused}
+use Rattle.rules.specs.declared.Verdict.{Verdict}
+use Rattle.rules.specs.declared.Verdict.the-variants.{Accepted}
+use Rattle.rules.specs.Bytes.{lineSize}
+use Rattle.rules.specs.Pass.{if_then_else_}
+use Rattle.rules.specs.Table.{Memory}
+use Rattle.rules.specs.Answers.{isRefused}
+use Rattle.rules.specs.Steps.{Outcome}
+use Rattle.rules.specs.Calls.{mostWeight, sizesGood, readWeightGood, updateWeightGood, pictureGood, orderGood, Test, verdict, sizesTest, orderTest, unless, leaving, plainVerdict, readVerdict, updateVerdict, fillVerdict}
+use Rattle.rules.proofs.Searches.{both}
+
+-- the first test passes, and then the others
+pub first-passes : (t : Test) (ts : List Test) → verdict (t ∷ ts) ≡ Accepted → (t .passes ≡ true) × (verdict ts ≡ Accepted)
+unfolding verdict
+first-passes t ts e = go (t .passes) refl e
+  where
+    go : (b : Bool) → t .passes ≡ b → (if b then verdict ts else Verdict.Refused (t .number)) ≡ Accepted →
+        (t .passes ≡ true) × (verdict ts ≡ Accepted)
+    go true p q = (p, q)
+    go false p q = let z : _≡_ {A = ℕ} 0 1 = cc in absurd (omega arith)
+
+pub record PlainAccepted (m : Memory) : Type 0 where
+  pub sizes : sizesGood (m .table) (m .lines) ≡ true
+  pub order : orderGood m ≡ true
+
+pub plain-accepted : (m : Memory) → plainVerdict m ≡ Accepted → PlainAccepted m
+unfolding plainVerdict sizesTest orderTest
+plain-accepted m e =
+    let a = first-passes _ _ e in
+    let b = first-passes _ _ (a .1) in
+    record { sizes = a .0; order = b .0 }
+
+-- a weight or a picture besides
+pub record MoreAccepted (m : Memory) (Good : Type 0) : Type 0 where
+  pub sizes : sizesGood (m .table) (m .lines) ≡ true
+  pub good : Good
+  pub order : orderGood m ≡ true
+
+pub read-accepted : (m : Memory) (w : ℕ) → readVerdict m w ≡ Accepted → MoreAccepted m (w ≤ mostWeight)
+unfolding readVerdict sizesTest orderTest readWeightGood
+read-accepted m w e =
+    let a = first-passes _ _ e in
+    let b = first-passes _ _ (a .1) in
+    let c = first-passes _ _ (b .1) in
+    record { sizes = a .0; good = leb-true w mostWeight (both (leb 1 w) (leb w mostWeight) (b .0) .1); order = c .0 }
+
+pub update-accepted : (m : Memory) (w : ℕ) → updateVerdict m w ≡ Accepted → MoreAccepted m (w ≤ mostWeight)
+unfolding updateVerdict sizesTest orderTest updateWeightGood
+update-accepted m w e =
+    let a = first-passes _ _ e in
+    let b = first-passes _ _ (a .1) in
+    let c = first-passes _ _ (b .1) in
+    record { sizes = a .0; good = leb-true w mostWeight (both (leb 1 w) (leb w mostWeight) (b .0) .1); order = c .0 }
+
+pub fill-accepted : (m : Memory) (picture : List ℕ) → fillVerdict m picture ≡ Accepted → MoreAccepted m (length picture ≡ lineSize)
+unfolding fillVerdict sizesTest orderTest pictureGood
+fill-accepted m picture e =
+    let a = first-passes _ _ e in
+    let b = first-passes _ _ (a .1) in
+    let c = first-passes _ _ (b .1) in
+    record { sizes = a .0; good = eqb-true (length picture) lineSize (b .0); order = c .0 }
+
+-- ---- accepted or refused is what the answer says
+module _ {Lent : Type 0} (lent : Lent) (given : Outcome Answer Lent) where
+  pub accepted-verdict : (v : Verdict) → isRefused (unless v (leaving lent) given .answer) ≡ false → v ≡ Accepted
+  unfolding unless isRefused
+  accepted-verdict Accepted e = refl
+  accepted-verdict (Verdict.Refused n) e = absurd (true≢false e)
+
+  -- a refused call leaves all it was lent, if its steps do where they refuse
+  pub refused-leaves : (v : Verdict) → (isRefused (given .answer) ≡ true → given .after ≡ lent) →
+      isRefused (unless v (leaving lent) given .answer) ≡ true → unless v (leaving lent) given .after ≡ lent
+  unfolding unless
+  refused-leaves Accepted steps e = steps e
+  refused-leaves (Verdict.Refused n) steps e = refl

@@ -1,0 +1,170 @@
+-- One definition a call: its answer and all it leaves, for accepted and refused calls alike, by a Rattle caller or a C host.
+use Prim.Native.Nat.{ℕ, _*_}
+use mathlib.Core.List.{List, [], _∷_}
+use mathlib.Core.Bool.{Bool, _&&_}
+use mathlib.Core.Option.{Option, none, some}
+use Rattle.rules.specs.declared.Gauge.{Gauge}
+use Rattle.rules.specs.declared.Verdict.{Verdict}
+use Rattle.rules.specs.declared.Verdict.the-variants.{Accepted}
+use Rattle.rules.specs.declared.Reply.{Reply}
+use Rattle.rules.specs.declared.Started.{Started}
+use lib.ListN.{length}
+use lib.Dec.{ltb, leb, eqb}
+use Rattle.rules.specs.declared.Answer.{Answer}
+use Rattle.rules.specs.declared.Answer.the-variants.{Refused}
+use Rattle.rules.specs.declared.Completion.{Completion}
+use Rattle.rules.specs.declared.Levels.{Levels}
+use Rattle.rules.specs.Bytes.{recordSize, recordCount, lineSize, lineAt, lineCount, gaugeSize, gaugeAt, putGauge}
+use Rattle.rules.specs.Pass.{if_then_else_}
+use Rattle.rules.specs.Table.{Memory, inOrder, lookup, places, size, lineTotal, freshMemory}
+use Rattle.rules.specs.Answers.{numberOf, wrongSizes, wrongWeight, notInOrder, wrongPicture}
+use Rattle.rules.specs.Steps.{Outcome, outcome, ageSteps, readSteps, updateSteps, fillSteps, shownLine, levelledSum}
+
+-- ---- the tests
+-- | K from 1 to 1,024
+abbrev pub mostRecords : ℕ
+mostRecords = 1024
+
+-- | table not whole records, K outside 1 to 1,024, lines not whole, C not under K
+unfoldable pub sizesGood : List ℕ → List ℕ → Bool
+sizesGood table lines =
+    eqb (recordSize * recordCount table) (length table)
+    && leb 1 (recordCount table)
+    && leb (recordCount table) mostRecords
+    && eqb (lineSize * lineCount lines) (length lines)
+    && ltb (lineCount lines) (recordCount table)
+
+-- | a key with weight w, the number of pieces waiting, 1 to 65,535
+abbrev pub mostWeight : ℕ
+mostWeight = 65535
+
+unfoldable pub readWeightGood : ℕ → Bool
+readWeightGood w = leb 1 w && leb w mostWeight
+
+-- | Update of a key with weight w, 1 to 65,535
+unfoldable pub updateWeightGood : ℕ → Bool
+updateWeightGood w = leb 1 w && leb w mostWeight
+
+-- | picture to fill not 64 bytes
+unfoldable pub pictureGood : List ℕ → Bool
+pictureGood picture = eqb (length picture) lineSize
+
+unfoldable pub orderGood : Memory → Bool
+orderGood m = inOrder (places m) (size m) (lineTotal m) (m .gauge)
+
+-- A test, and the number that a call is refused with where it fails.
+pub record Test : Type 0 where
+  pub passes : Bool
+  pub number : ℕ
+
+abbrev pub must : Bool → ℕ → Test
+must good number = record { passes = good; number = number }
+
+-- the number of the first test that fails
+unfoldable pub verdict : List Test → Verdict
+verdict [] = Accepted
+verdict (t ∷ ts) = if t .passes then verdict ts else Verdict.Refused (t .number)
+
+-- | Order of tests: 1, then 2 or 4, then 3, 5, 6. (5 and 6 are among the steps of a fill.)
+unfoldable pub sizesTest : Memory → Test
+sizesTest m = must (sizesGood (m .table) (m .lines)) wrongSizes
+
+unfoldable pub orderTest : Memory → Test
+orderTest m = must (orderGood m) notInOrder
+
+unfoldable pub unless : {Given : Type 0} → Verdict → (ℕ → Given) → Given → Given
+unless Accepted refused given = given
+unless (Verdict.Refused n) refused given = refused n
+
+-- | Returned: the number. Left as it was: all lent memory
+abbrev pub leaving : {Lent : Type 0} → Lent → ℕ → Outcome Answer Lent
+leaving lent n = outcome (Refused n) lent
+
+-- ---- the calls
+-- the tests of aging, show and levelled sum
+unfoldable pub plainVerdict : Memory → Verdict
+plainVerdict m = verdict (sizesTest m ∷ orderTest m ∷ [])
+
+unfoldable pub ageOutcome : Memory → Outcome Answer Memory
+ageOutcome m = unless (plainVerdict m) (leaving m) (ageSteps m)
+
+unfoldable pub readVerdict : Memory → ℕ → Verdict
+readVerdict m w = verdict (sizesTest m ∷ must (readWeightGood w) wrongWeight ∷ orderTest m ∷ [])
+
+unfoldable pub readOutcome : Memory → ℕ → ℕ → Outcome Answer Memory
+readOutcome m key w = unless (readVerdict m w) (leaving m) (readSteps m key w)
+
+unfoldable pub updateVerdict : Memory → ℕ → Verdict
+updateVerdict m w = verdict (sizesTest m ∷ must (updateWeightGood w) wrongWeight ∷ orderTest m ∷ [])
+
+unfoldable pub updateOutcome : Memory → ℕ → ℕ → Outcome Answer Memory
+updateOutcome m key w = unless (updateVerdict m w) (leaving m) (updateSteps m key w)
+
+unfoldable pub fillVerdict : Memory → List ℕ → Verdict
+fillVerdict m picture = verdict (sizesTest m ∷ must (pictureGood picture) wrongPicture ∷ orderTest m ∷ [])
+
+unfoldable pub fillOutcome : Memory → ℕ → List ℕ → Outcome Answer Memory
+fillOutcome m key picture = unless (fillVerdict m picture) (leaving m) (fillSteps m key picture)
+
+-- | Fresh gives only 1. .. Fresh .. answers done.
+unfoldable pub freshOutcome : Memory → Outcome Completion Memory
+freshOutcome m =
+    unless (verdict (sizesTest m ∷ [])) (λ n. outcome (Completion.Refused n) m) (outcome Completion.Done (freshMemory m))
+
+-- | Show gives no numbers: where cause 1 or 3 holds, it returns the stand-in too.
+unfoldable pub showLine : Memory → ℕ → Option ℕ
+showLine m key = unless (plainVerdict m) (λ n. none) (shownLine (lookup (places m) (size m) key))
+
+-- | It returns the line's own 64 bytes, or the caller's stand-in
+unfoldable pub shownBytes : Memory → List ℕ → Option ℕ → List ℕ
+shownBytes m standIn none = standIn
+shownBytes m standIn (some n) = lineAt (m .lines) n
+
+unfoldable pub showOutcome : Memory → ℕ → List ℕ → List ℕ
+showOutcome m key standIn = shownBytes m standIn (showLine m key)
+
+-- | Levelled sum .. Refusals 1 and 3.
+unfoldable pub levelledOutcome : Memory → Levels
+levelledOutcome m = unless (plainVerdict m) Levels.Refused (Levels.Sum (levelledSum m))
+
+-- ---- in the words of a function's contract
+abbrev pub lent : List ℕ → Gauge → List ℕ → Memory
+lent table gauge lines = record { table = table; gauge = gauge; lines = lines }
+
+-- a reply, with the table and the lines that the call leaves
+abbrev pub left : Reply → List ℕ → List ℕ → Outcome Answer Memory
+left reply table lines = outcome (reply .answer) (lent table (reply .gauge) lines)
+
+abbrev pub started : Started → List ℕ → List ℕ → Outcome Completion Memory
+started reply table lines = outcome (reply .answer) (lent table (reply .gauge) lines)
+
+-- ---- a call by a C host
+-- | The hub's host program is in C; it calls through exported functions and lends the gauge as 16 bytes
+pub record HostMemory : Type 0 where
+  pub table : List ℕ
+  pub gauge : List ℕ
+  pub lines : List ℕ
+
+abbrev pub hostLent : List ℕ → List ℕ → List ℕ → HostMemory
+hostLent table gauge lines = record { table = table; gauge = gauge; lines = lines }
+
+-- what a host's memory holds
+unfoldable pub held : HostMemory → Memory
+held h = record { table = h .table; gauge = gaugeAt (h .gauge); lines = h .lines }
+
+-- what a host's memory becomes where a call leaves m
+unfoldable pub stored : HostMemory → Memory → HostMemory
+stored h m = record { table = m .table; gauge = putGauge (h .gauge) (m .gauge); lines = m .lines }
+
+-- | gauge bytes not 16
+unfoldable pub gaugeTest : HostMemory → Test
+gaugeTest h = must (eqb (length (h .gauge)) gaugeSize) wrongSizes
+
+unfoldable pub hosted : (Memory → Outcome Answer Memory) → HostMemory → Outcome Answer HostMemory
+hosted call h =
+    unless (verdict (gaugeTest h ∷ [])) (leaving h)
+    (outcome (call (held h) .answer) (stored h (call (held h) .after)))
+
+-- | An exported read, update, fill or aging returns one number
+unfoldable pub exported : (Memory → Outcome Answer Memory) → HostMemory → Outcome ℕ HostMemory
+exported call h = outcome (numberOf (hosted call h .answer)) (hosted call h .after)

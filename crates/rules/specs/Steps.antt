@@ -1,0 +1,156 @@
+-- The steps of age, read, update, fill, show and the levelled sum, on a memory that no refusal holds for (Calls.antt).
+use Prim.Native.Nat.{ℕ, _+_, max}
+use mathlib.Core.List.{List}
+use mathlib.Core.Bool.{true, false}
+use mathlib.Core.Option.{Option, none, some}
+use lib.Dec.{ltb}
+use Rattle.rules.specs.declared.Record.{Record}
+use Rattle.rules.specs.declared.Gauge.{Gauge}
+use Rattle.rules.specs.declared.Found.{Found}
+use Rattle.rules.specs.declared.Found.the-variants.{Nowhere, At}
+use Rattle.rules.specs.declared.Lookup.{Lookup}
+use Rattle.rules.specs.declared.Lookup.the-variants.{Untracked, Unlined, Lined}
+use Rattle.rules.specs.declared.Answer.{Answer}
+use Rattle.rules.specs.declared.Answer.the-variants.{Aged, Changed, Unknown, Stored, Passed, Hit, Wanted, Refused}
+use Rattle.rules.specs.Answers.{noLine, alreadyFilled}
+use Rattle.rules.specs.Bytes.{putLine}
+use Rattle.rules.specs.Pass.{if_then_else_, sumOf}
+use Rattle.rules.specs.Table.{Memory, isFree, isLined, isFilled, lineOf, agedRecord, halfDown, heated, cooled, newRecord, unlined, onEmptyLine, emptied, filled, keyRecord, freeRecord, victim, coldestLined, hottestUnlined, hotter, lowestUnused, lookup, mostTotal, places, size, lineTotal, withTable, withGauge, withLines, write, changeAll}
+
+-- What a call does: its answer, and what it leaves of what it was lent.
+pub record Outcome (Answered Lent : Type 0) : Type 0 where
+  pub answer : Answered
+  pub after : Lent
+
+abbrev pub outcome : {Answered Lent : Type 0} → Answered → Lent → Outcome Answered Lent
+outcome a m = record { answer = a; after = m }
+
+-- ---- Age
+-- | Every heat, the total and the ceiling become half, rounded down. Every slack becomes half, rounded up.
+unfoldable pub agedGauge : Gauge → Gauge
+agedGauge g = record { total = halfDown (g .total); ceiling = halfDown (g .ceiling) }
+
+unfoldable pub aged : Memory → Memory
+aged m = withGauge (agedGauge (m .gauge)) (withTable (changeAll agedRecord (m .table) (size m)) m)
+
+-- | Answer: aged.
+unfoldable pub ageSteps : Memory → Outcome Answer Memory
+ageSteps m = outcome Aged (aged m)
+
+-- ---- a line goes to a record
+-- | it takes .. [the] line. .. A line just taken is empty.
+unfoldable pub giveLine : Memory → ℕ → ℕ → Memory
+giveLine m i n = write m i (onEmptyLine n (places m i))
+
+-- | it takes that record's line and that record's state becomes 1
+unfoldable pub handOver : Memory → ℕ → ℕ → Memory
+handOver m from to = giveLine (write m from (unlined (places m from))) to (lineOf (places m from))
+
+-- ---- Read
+-- | 1. If total + w exceeds L, age first.
+unfoldable pub makeRoom : ℕ → Memory → Memory
+makeRoom w m = if ltb mostTotal (m .gauge .total + w) then aged m else m
+
+-- | Then total grows by w.
+unfoldable pub grown : ℕ → Memory → Memory
+grown w m = withGauge (record { total = m .gauge .total + w; ceiling = m .gauge .ceiling }) m
+
+-- | 3. .. gets key, heat ceiling + w, slack ceiling, state 1.
+unfoldable pub track : Memory → ℕ → ℕ → ℕ → Memory
+track m key w i = write m i (newRecord key (m .gauge .ceiling) w)
+
+-- | 4. .. Ceiling becomes the larger of ceiling and the victim's heat.
+unfoldable pub raised : ℕ → Memory → Memory
+raised heat m = withGauge (record { total = m .gauge .total; ceiling = max (m .gauge .ceiling) heat }) m
+
+-- | The victim's record then gets the key, heat ceiling + w, slack ceiling, state 1.
+unfoldable pub evict : Memory → ℕ → ℕ → ℕ → Record → Memory
+evict m key w i v = track (raised (v .heat) m) key w i
+
+-- | 5. If the key has no line: with a line used by no record, it takes the lowest such line. Otherwise, if C is over 0 and
+-- | its heat is greater than that of the coldest record on a line (first among equals), it takes that record's line and that
+-- | record's state becomes 1. (With C = 0 no record of a table in order is on a line.)
+unfoldable pub challenge : Memory → ℕ → Found → Memory
+challenge m i Nowhere = m
+challenge m i (At j r) = if hotter (places m i) r then handOver m j i else m
+
+unfoldable pub seek : Memory → ℕ → ℕ → Memory
+seek m i n = if ltb n (lineTotal m) then giveLine m i n else challenge m i (coldestLined (places m) (size m))
+
+unfoldable pub admit : Memory → ℕ → Memory
+admit m i = if isLined (places m i) then m else seek m i (lowestUnused (places m) (size m) (lineTotal m))
+
+-- | 6. Answer: hit with the line number if its line is filled; wanted with the number if empty; passed if it has no line.
+unfoldable pub readAnswer : Record → Answer
+readAnswer r = if isFilled r then Hit (lineOf r) else if isLined r then Wanted (lineOf r) else Passed
+
+unfoldable pub settle : ℕ → Memory → Outcome Answer Memory
+settle i m = outcome (readAnswer (places (admit m i) i)) (admit m i)
+
+-- | 2. Tracked key: its heat grows by w. 3. Untracked key with a free record: the first free one. 4. Untracked key, no free
+-- | record: the victim. (A table in order, with C under K, has a free record or a victim.)
+unfoldable pub place : Memory → ℕ → ℕ → Found → Found → Found → Outcome Answer Memory
+place m key w (At i r) free coldest = settle i (write m i (heated w r))
+place m key w Nowhere (At i r) coldest = settle i (track m key w i)
+place m key w Nowhere Nowhere (At i r) = settle i (evict m key w i r)
+place m key w Nowhere Nowhere Nowhere = outcome Passed m
+
+unfoldable pub readCounted : Memory → ℕ → ℕ → Outcome Answer Memory
+readCounted m key w =
+    place m key w
+    (keyRecord key (places m) (size m))
+    (freeRecord (places m) (size m))
+    (victim (places m) (size m))
+
+unfoldable pub readSteps : Memory → ℕ → ℕ → Outcome Answer Memory
+readSteps m key w = readCounted (grown w (makeRoom w m)) key w
+
+-- ---- Update
+-- | If it has a line and the hottest record without one (first among equals) is now strictly hotter, that record takes the
+-- | line, empty, and the key's state becomes 1.
+unfoldable pub yieldTo : Memory → ℕ → Found → Memory
+yieldTo m i Nowhere = m
+yieldTo m i (At j r) = if hotter r (places m i) then handOver m i j else m
+
+unfoldable pub defend : Memory → ℕ → Memory
+defend m i = if isLined (places m i) then yieldTo m i (hottestUnlined (places m) (size m)) else m
+
+-- | An untracked key changes nothing; answer: unknown. Otherwise its heat falls by w, not below 0, and a line it has becomes
+-- | empty. .. Answer: changed.
+unfoldable pub change : Memory → ℕ → Found → Outcome Answer Memory
+change m w Nowhere = outcome Unknown m
+change m w (At i r) = outcome Changed (defend (write m i (emptied (cooled w r))) i)
+
+unfoldable pub updateSteps : Memory → ℕ → ℕ → Outcome Answer Memory
+updateSteps m key w = change m w (keyRecord key (places m) (size m))
+
+-- ---- Fill
+-- | if there is none, or it has no line, the call ends there with 5; if the line is filled, with 6. Otherwise the 64 bytes are
+-- | written into that line's part of the lent lines, and the state becomes filled. Answer: stored.
+unfoldable pub store : Memory → List ℕ → Lookup → Outcome Answer Memory
+store m picture Untracked = outcome (Refused noLine) m
+store m picture Unlined = outcome (Refused noLine) m
+store m picture (Lined i n true) = outcome (Refused alreadyFilled) m
+store m picture (Lined i n false) =
+    outcome Stored (withLines (putLine (m .lines) n picture) (write m i (filled (places m i))))
+
+-- | The key's record is looked up
+unfoldable pub fillSteps : Memory → ℕ → List ℕ → Outcome Answer Memory
+fillSteps m key picture = store m picture (lookup (places m) (size m) key)
+
+-- ---- Show
+-- | the line when the key's record is on a filled line, else the stand-in
+unfoldable pub shownLine : Lookup → Option ℕ
+shownLine Untracked = none
+shownLine Unlined = none
+shownLine (Lined i n true) = some n
+shownLine (Lined i n false) = none
+
+-- ---- Levelled sum
+-- | the larger of heat and ceiling; free records count with heat 0
+unfoldable pub level : ℕ → Record → ℕ
+level ceiling r = max (if isFree r then 0 else r .heat) ceiling
+
+-- | The sum, over all K records
+unfoldable pub levelledSum : Memory → ℕ
+levelledSum m = sumOf (level (m .gauge .ceiling)) (places m) (size m)

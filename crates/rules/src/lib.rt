@@ -1,0 +1,99 @@
+// The declared types of the pattern cache. What they mean, and what every call does with them, is in specs/.
+
+// One of the table's records: a class that is tracked, or a free place.
+pub struct Record {
+    // The class.
+    pub key: u64,
+    // CoT's hotness: what was read, less what was updated, never below the true heat.
+    pub heat: u64,
+    // Space-Saving's error bound: heat exceeds the true heat by at most this.
+    pub slack: u64,
+    // Free, tracked, or on a cache line that is empty or filled (specs/Table.antt).
+    pub state: u64,
+}
+
+// The two numbers that go with a table.
+pub struct Gauge {
+    // All weight read so far, halved by each aging.
+    pub total: u64,
+    // Bounds the true heat of every class that has no record.
+    pub ceiling: u64,
+}
+
+// What a search of the table finds: the place of a record, with the record itself.
+pub enum Found {
+    Nowhere,
+    At(usize, Record),
+}
+
+// A key, looked up.
+pub enum Lookup {
+    // No record.
+    Untracked,
+    // A record without a line.
+    Unlined,
+    // A record on a line, and whether the line is filled.
+    Lined {
+        place: usize,
+        line: usize,
+        filled: bool,
+    },
+}
+
+// The answer of a read, update, fill or aging.
+pub enum Answer {
+    Aged,
+    Changed,
+    Unknown,
+    Stored,
+    Passed,
+    Hit(u64),
+    Wanted(u64),
+    Refused(u64),
+}
+
+// A read, update or aging's answer, with the gauge after it.
+pub struct Reply {
+    pub answer: Answer,
+    pub gauge: Gauge,
+}
+
+// The answer of a call that has no named answer.
+pub enum Completion {
+    Done,
+    Refused(u64),
+}
+
+// Fresh's answer, with the gauge after it.
+pub struct Started {
+    pub answer: Completion,
+    pub gauge: Gauge,
+}
+
+// Whether a call is refused before its steps, and with which number.
+pub enum Verdict {
+    Accepted,
+    Refused(u64),
+}
+
+// The answer of the levelled sum.
+pub enum Levels {
+    Sum(u64),
+    Refused(u64),
+}
+
+// One journal record, decoded. A fill's picture is given by its place in the journal.
+pub enum Entry {
+    Read { key: u64, weight: u64 },
+    Update { key: u64, weight: u64 },
+    Fill { key: u64, picture: usize },
+    Age,
+    Refused(u64),
+    Done,
+}
+
+// What reading the journal at a position gives: the entry, and the position after it.
+pub struct Decoded {
+    pub entry: Entry,
+    pub next: usize,
+}
