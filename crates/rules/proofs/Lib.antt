@@ -20,3 +20,4 @@ pub mod FillHolds
 pub mod Verdicts
 pub mod FreshHolds
 pub mod EveryList
+pub mod Refusals
