@@ -10,11 +10,11 @@ use lib.Dec.{eqb}
 use Rattle.rules.specs.declared.Record.{Record}
 use Rattle.rules.specs.declared.Gauge.{Gauge}
 use Rattle.rules.specs.Pass.{if_then_else_, pass, sumOf}
-use Rattle.rules.specs.Table.{agedRecord, halfDown, halfUp, isFree, isLined, isOn, isUsed, isZero, lineOf}
+use Rattle.rules.specs.Table.{agedRecord, halfDown, halfUp, isFree, isZero, lineOf}
 use Rattle.rules.specs.Steps.{agedGauge, level}
 use Rattle.rules.specs.Demand3.{Truth, ageTruth}
 use Rattle.rules.proofs.Bounds.{halved-not-below, halved-not-above}
-use Rattle.rules.proofs.Searches.{none-any, any-none}
+use Rattle.rules.proofs.SameLines.{same-lines-full}
 use Rattle.rules.proofs.Invariant.{Sound, Full, Hottest}
 
 -- the larger of halves is half of the larger
@@ -82,11 +82,8 @@ module _ (f f′ : ℕ → Record) (n c : ℕ) (aged : (i : ℕ) → i < n → f
       }
 
   pub age-full : Full f n c → Full f′ n c
-  unfolding isUsed isOn isLined lineOf agedRecord
-  age-full h =
-      let unused : (line : ℕ) → isUsed f′ n line ≡ false → isUsed f n line ≡ false =
-      λ line e. any-none (isOn line) f n (λ i below. rw (aged i below) at (none-any (isOn line) f′ n e i below)) in
-      record { none-waits = λ line there e j below. rw (aged j below) (h .none-waits line there (unused line e) j below) }
+  unfolding agedRecord lineOf
+  age-full = same-lines-full f f′ n c (λ i below. rw (aged i below) (record { stage = refl; line = refl }))
 
   pub age-hottest : Hottest f n → Hottest f′ n
   unfolding agedRecord

@@ -1,52 +1,24 @@
 -- Filling the line of a class keeps the invariant: its line shows the picture that the replay has, and other lines are other classes'.
 -- Assumes nothing.
-use Prim.Native.Nat.{ℕ, _+_, _*_, _-_, _≤_, _<_}
+use Prim.Native.Nat.{ℕ, _<_}
 use mathlib.Core.Path.{_≡_, refl, sym, _∙_}
-use mathlib.Core.Bool.{true, false}
+use mathlib.Core.Bool.{true}
 use mathlib.Core.List.{List}
 use mathlib.Core.Logic.{_≢_}
 use mathlib.Core.Option.{some}
 use native.Mathlib.Nat.{le-trans, le-of-eq}
-use native.Mathlib.Decide.{decLt, ℕ-discrete}
+use native.Mathlib.Decide.{ℕ-discrete}
 use native.Mathlib.Omega.{arith}
-use borrow.Author.Tests.{lt-ltb, le-ltb, eq-eqb, ne-eqb}
+use borrow.Author.Tests.{eq-eqb, ne-eqb}
 use Rattle.rules.specs.declared.Record.{Record}
 use Rattle.rules.specs.declared.Gauge.{Gauge}
-use Rattle.rules.specs.Table.{isFree, isLined, lineOf, isOn, emptyState, filledState, isZero, withState, filled, isUsed}
+use Rattle.rules.specs.Table.{isFree, lineOf, emptyState, filledState, isZero, withState, filled}
 use Rattle.rules.specs.Steps.{level}
 use Rattle.rules.specs.Demand3.{Truth, at, fillTruth}
-use Rattle.rules.proofs.Searches.{any-none, none-any, sum-le}
+use Rattle.rules.proofs.Searches.{sum-le}
 use Rattle.rules.proofs.Changes.{at-same, at-other, at-all}
+use Rattle.rules.proofs.SameLines.{SameLine, same-line-itself, same-line-state-most, same-lines-full}
 use Rattle.rules.proofs.Invariant.{Sound, Full, Hottest}
-
--- both free, both without a line, or both on the same line
-record SameLine (r s : Record) : Type 0 where
-  stage : 2 - r .state ≡ 2 - s .state
-  line : lineOf r ≡ lineOf s
-
-same-line-state-most : {r s : Record} (c : ℕ) → SameLine r s → s .state ≤ 1 + 2 * c → r .state ≤ 1 + 2 * c
-unfolding lineOf
-same-line-state-most c same most = omega arith
-
-same-line-on : {r s : Record} (line : ℕ) → SameLine r s → isOn line r ≡ isOn line s
-unfolding isOn isLined
-same-line-on {r} {s} line same =
-    elim (decLt 1 (s .state)) [
-      | yes e ↦ rw (lt-ltb 1 (s .state) e, lt-ltb 1 (r .state) (omega arith), same .line)
-      | no e ↦ rw (le-ltb 1 (s .state) (omega arith), le-ltb 1 (r .state) (omega arith))
-    ]
-
--- lines that stay where they are stay full
-same-lines-full : (f f′ : ℕ → Record) (n c : ℕ) → ((j : ℕ) → j < n → SameLine (f′ j) (f j)) → Full f n c → Full f′ n c
-unfolding isUsed
-same-lines-full f f′ n c same h =
-    record {
-      none-waits =
-          λ line below unused j inside waits.
-          let were-unused : isUsed f n line ≡ false =
-          any-none (isOn line) f n (λ k below. sym (same-line-on line (same k below)) ∙ none-any (isOn line) f′ n unused k below) in
-          h .none-waits line below were-unused j inside (omega (arith, same j inside));
-    }
 
 -- the same class, as hot, on the same line
 record Alike (r s : Record) : Type 0 where
@@ -56,7 +28,7 @@ record Alike (r s : Record) : Type 0 where
   on : SameLine r s
 
 alike-itself : (r : Record) → Alike r r
-alike-itself r = record { key = refl; heat = refl; slack = refl; on = record { stage = refl; line = refl } }
+alike-itself r = record { key = refl; heat = refl; slack = refl; on = same-line-itself r }
 
 alike-zero : {r s : Record} → Alike r s → r .state ≡ 0 → isZero s ≡ true → isZero r ≡ true
 unfolding isZero

@@ -81,6 +81,10 @@ module _ (f : ℕ → Record) (n : ℕ) where
         );
       }
 
+  pub victim-missing : victim f n ≡ Nowhere → (j : ℕ) → j < n → f j .state ≢ 1
+  unfolding victim isUnlined
+  victim-missing e j below = eqb-false _ _ (best-nowhere isUnlined colder colder-keeps colder-never f n e j below)
+
   pub coldest-found : (i : ℕ) (r : Record) → coldestLined f n ≡ At i r →
       IsAt f n i r (λ s. (1 < s .state) × ((j : ℕ) → j < n → 1 < f j .state → s .heat ≤ f j .heat))
   unfolding coldestLined colder isLined

@@ -2,22 +2,23 @@
 -- there are lines. And in such a table with fewer lines than records, a read that finds no free record finds a victim.
 -- Assumes nothing.
 use Prim.Native.Nat.{ℕ, zero, suc, _+_, _*_, _-_, _≤_, _<_, min}
-use mathlib.Core.Path.{_≡_, refl, sym}
-use mathlib.Core.Bool.{Bool, true, false, _&&_, true≢false, or-true}
+use mathlib.Core.Path.{_≡_}
+use mathlib.Core.Bool.{true, or-true}
 use mathlib.Core.List.{List}
 use mathlib.Core.Logic.{_≢_}
 use native.Mathlib.Nat.{le-trans}
 use native.Mathlib.Decide.{decLt, ℕ-discrete}
 use native.Mathlib.Omega.{arith}
-use borrow.Author.Tests.{lt-ltb, le-ltb, le-leb, ltb-true, ltb-false, leb-true, eqb-false}
+use borrow.Author.Tests.{lt-ltb, le-ltb, le-leb, ltb-false, leb-true}
 use lib.Dec.{ltb}
 use Rattle.rules.specs.declared.Record.{Record}
 use Rattle.rules.specs.declared.Gauge.{Gauge}
 use Rattle.rules.specs.declared.Found.the-variants.{Nowhere}
 use Rattle.rules.specs.Pass.{if_then_else_, pass, sumOf, countOf}
-use Rattle.rules.specs.Table.{isFree, isTracked, isUnlined, isLined, lineOf, recordInOrder, inOrder, freeRecord, colder, victim, mostTotal}
+use Rattle.rules.specs.Table.{isTracked, isLined, lineOf, recordInOrder, inOrder, freeRecord, victim, mostTotal}
 use Rattle.rules.specs.Demand3.{Truth}
-use Rattle.rules.proofs.Searches.{first-nowhere, best-nowhere, all-at, all-of, sum-most, sum-le, count-below}
+use Rattle.rules.proofs.Searches.{both, all-at, all-of, sum-most, sum-le, count-below}
+use Rattle.rules.proofs.Finds.{free-missing, victim-missing}
 use Rattle.rules.proofs.Invariant.{Sound}
 
 -- a sum that has one more than another at no two places is at most one more
@@ -85,11 +86,6 @@ lined-most f n c below apart =
               apart i j i-inside j-inside (omega arith) (omega arith) (omega arith)),
         )
 
--- a test of two parts that passes
-both : (a b : Bool) → (a && b) ≡ true → (a ≡ true) × (b ≡ true)
-both true b e = (refl, e)
-both false b e = absurd (true≢false (sym e))
-
 pub sound-in-order : (f : ℕ → Record) (n c : ℕ) (g : Gauge) (shown : ℕ → List ℕ) (t : Truth) → Sound f n c g shown t →
     inOrder f n c g ≡ true
 unfolding inOrder recordInOrder isTracked
@@ -140,22 +136,8 @@ in-order-says f n c g e =
     }
 
 -- the order by which a victim is chosen
-colder-keeps : (r s t : Record) → colder r s ≡ true → colder t s ≡ false → colder t r ≡ false
-unfolding colder
-colder-keeps r s t wins loses =
-    le-ltb (t .heat) (r .heat) (omega (arith, ltb-true (r .heat) (s .heat) wins, ltb-false (t .heat) (s .heat) loses))
-
-colder-never : (r : Record) → colder r r ≡ false
-unfolding colder
-colder-never r = le-ltb (r .heat) (r .heat) (omega arith)
-
 pub has-victim : (f : ℕ → Record) (n c : ℕ) → countOf isLined f n ≤ c → c < n → freeRecord f n ≡ Nowhere → victim f n ≢ Nowhere
-unfolding freeRecord victim isFree isUnlined isLined
+unfolding isLined
 has-victim f n c most fewer no-free no-victim =
     let (i, inside, not-lined) = count-below isLined f n (omega arith) in
-    omega (
-      arith,
-      ltb-false 1 (f i .state) not-lined,
-      eqb-false (f i .state) 0 (first-nowhere isFree f n no-free i inside),
-      eqb-false (f i .state) 1 (best-nowhere isUnlined colder colder-keeps colder-never f n no-victim i inside),
-    )
+    omega (arith, ltb-false 1 (f i .state) not-lined, free-missing f n no-free i inside, victim-missing f n no-victim i inside)

@@ -5,14 +5,15 @@ pub mod Bounds
 pub mod Searches
 pub mod Invariant
 pub mod Changes
+pub mod SameLines
 pub mod AgeKeeps
 pub mod ReadKeeps
 pub mod LineKeeps
 pub mod UpdateKeeps
 pub mod FillKeeps
-pub mod InOrder
 pub mod Memories
 pub mod Finds
+pub mod InOrder
 pub mod CallsHold
 pub mod ReadHolds
 pub mod UpdateHolds

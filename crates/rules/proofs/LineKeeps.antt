@@ -2,7 +2,7 @@
 -- Only states over 0 change, so that what is said of keys, heats and slacks stays. Assumes nothing.
 use Prim.Native.Nat.{ℕ, _+_, _*_, _≤_, _<_}
 use mathlib.Core.Path.{_≡_, refl, sym, _∙_}
-use mathlib.Core.Bool.{Bool, true, false, true≢false}
+use mathlib.Core.Bool.{true, false}
 use mathlib.Core.List.{List}
 use mathlib.Core.Logic.{_≢_}
 use mathlib.Core.Option.{some}
@@ -15,14 +15,11 @@ use Rattle.rules.specs.declared.Gauge.{Gauge}
 use Rattle.rules.specs.Table.{isFree, isZero, isLined, isOn, lineOf, emptyState, filledState, withState, unlined, onEmptyLine, isUsed}
 use Rattle.rules.specs.Steps.{level}
 use Rattle.rules.specs.Demand3.{Truth, at}
-use Rattle.rules.proofs.Searches.{any-at, any-none, sum-le}
+use Rattle.rules.proofs.Searches.{clash, any-at, any-none, sum-le}
 use Rattle.rules.proofs.Changes.{at-same, at-other, at-all}
 use Rattle.rules.proofs.Invariant.{Sound, Full, FullBut, Hottest, HottestBut, HottestOver}
 
 -- ---- lines in use
-clash : {A : Type 0} {b : Bool} → b ≡ true → b ≡ false → A
-clash used unused = absurd (true≢false (sym used ∙ unused))
-
 used-at : (f : ℕ → Record) (n j : ℕ) (r : Record) → j < n → f j ≡ r → 1 < r .state → isUsed f n (lineOf r) ≡ true
 unfolding isUsed isOn isLined
 used-at f n j r inside is lined =

@@ -11,10 +11,10 @@ use Rattle.rules.specs.declared.Lookup.{Lookup}
 use Rattle.rules.specs.declared.Lookup.the-variants.{Untracked, Unlined, Lined}
 use Rattle.rules.specs.declared.Answer.the-variants.{Passed, Hit, Wanted}
 use Rattle.rules.specs.Pass.{if_then_else_}
-use Rattle.rules.specs.Table.{Memory, isLined, isFilled, lineOf, keyRecord, freeRecord, victim, lookup, places, size}
+use Rattle.rules.specs.Table.{Memory, isLined, isFilled, lineOf, keyRecord, lookup, places, size}
 use Rattle.rules.specs.Answers.{isRefused}
 use Rattle.rules.specs.Steps.{outcome, ageSteps, readAnswer, settle, place, readCounted, readSteps, change, updateSteps, store, fillSteps, makeRoom, grown}
-use Rattle.rules.specs.Calls.{HostMemory, held, stored, gaugeTest, verdict, hosted, unless, plainVerdict, readVerdict, updateVerdict, fillVerdict, ageOutcome, readOutcome, updateOutcome, fillOutcome}
+use Rattle.rules.specs.Calls.{HostMemory, held, stored, gaugeTest, verdict, hosted, plainVerdict, readVerdict, updateVerdict, fillVerdict, ageOutcome, readOutcome, updateOutcome, fillOutcome}
 use Rattle.rules.specs.Demand3.{Kind, read, update, fill, age, Call, outcomeOf, callOutcome}
 use Rattle.rules.proofs.Words.{IsBytes}
 use Rattle.rules.proofs.Places.{gauge-kept}

@@ -1,33 +1,33 @@
 -- Cooling a class and emptying its line keeps the invariant, but that the class may be colder than one without a line.
 -- Assumes nothing.
-use Prim.Native.Nat.{ℕ, _+_, _-_, _≤_, _<_, min}
+use Prim.Native.Nat.{ℕ, _+_, _-_, _≤_, _<_}
 use mathlib.Core.Path.{_≡_, refl, _∙_}
 use mathlib.Core.Bool.{Bool, true, false}
 use mathlib.Core.List.{List}
 use mathlib.Core.Logic.{_≢_}
 use mathlib.Core.Option.{some}
-use native.Mathlib.Decide.{decLt, ℕ-discrete}
+use native.Mathlib.Decide.{ℕ-discrete}
 use native.Mathlib.Omega.{arith}
-use borrow.Author.Tests.{ltb-true, ltb-false, lt-ltb, le-ltb, eq-eqb, ne-eqb}
+use borrow.Author.Tests.{ltb-true, ltb-false, eq-eqb, ne-eqb}
 use lib.Dec.{ltb}
 use Rattle.rules.specs.declared.Record.{Record}
 use Rattle.rules.specs.declared.Gauge.{Gauge}
 use Rattle.rules.specs.Pass.{if_then_else_}
-use Rattle.rules.specs.Table.{cooled, emptied, emptyState, filledState, isFree, isLined, isOn, isUsed, isZero, lineOf, onEmptyLine, withHeat, withState}
+use Rattle.rules.specs.Table.{cooled, emptied, emptyState, filledState, isFree, isLined, isZero, lineOf, onEmptyLine, withHeat, withState}
 use Rattle.rules.specs.Steps.{level}
 use Rattle.rules.specs.Demand3.{Truth, at, updateTruth}
 use Rattle.rules.proofs.Changes.{at-same, at-other, at-all}
-use Rattle.rules.proofs.Searches.{any-none, none-any, sum-le}
+use Rattle.rules.proofs.Searches.{sum-le}
+use Rattle.rules.proofs.SameLines.{SameLine, same-lines-full}
 use Rattle.rules.proofs.Invariant.{Sound, Full, Hottest, HottestOver}
 
--- r′ is r but for a loss of heat, and perhaps an emptied line: both are free, both without a line, or both on the same one
+-- r′ is r but for a loss of heat, and perhaps an emptied line
 record Eased (r r′ : Record) : Type 0 where
   key : r′ .key ≡ r .key
   heat : r′ .heat ≤ r .heat
   slack : r′ .slack ≡ r .slack
   state : r′ .state ≤ r .state
-  kind : min (r′ .state) 2 ≡ min (r .state) 2
-  line : lineOf r′ ≡ lineOf r
+  on : SameLine r′ r
 
 record Cooled (w : ℕ) (r r′ : Record) : Type 0 where
   eased : Eased r r′
@@ -48,14 +48,6 @@ eased-level ceiling r r′ e =
     elim (ℕ-discrete (r .state) 0) [
       | yes free ↦ rw (eq-eqb (r .state) 0 free, eq-eqb (r′ .state) 0 (omega arith)) (omega arith)
       | no used ↦ rw (ne-eqb (r .state) 0 used, ne-eqb (r′ .state) 0 (omega arith)) (omega arith)
-    ]
-
-eased-off : (line : ℕ) (r r′ : Record) → Eased r r′ → isOn line r′ ≡ false → isOn line r ≡ false
-unfolding isOn isLined
-eased-off line r r′ e off =
-    elim (decLt 1 (r .state)) [
-      | yes lined ↦ rw (lt-ltb 1 (r .state) lined) (rw (lt-ltb 1 (r′ .state) (omega arith), e .line) at off)
-      | no without ↦ rw (le-ltb 1 (r .state) (omega arith))
     ]
 
 -- no class's true heat grows
@@ -126,11 +118,7 @@ module _ (f : ℕ → Record) (n c i w : ℕ) (inside : i < n) (tracked : 0 < f 
       }
 
   pub cool-full : Full f n c → Full (at i (emptied (cooled w (f i))) f) n c
-  unfolding isUsed
-  cool-full h =
-      let unused : (line : ℕ) → isUsed f′ n line ≡ false → isUsed f n line ≡ false =
-      λ line e. any-none (isOn line) f n (λ j below. eased-off line (f j) (f′ j) (each j) (none-any (isOn line) f′ n e j below)) in
-      record { none-waits = λ line there e j below waits. h .none-waits line there (unused line e) j below (omega (arith, each j)) }
+  cool-full = same-lines-full f f′ n c (λ j below. each j .on)
 
   pub cool-hottest : Hottest f n → HottestOver i (at i (emptied (cooled w (f i))) f) n
   cool-hottest h =

@@ -1,7 +1,7 @@
 -- The journal: its record forms, reading it from a position, and running a whole journal on a memory with the rows it prints.
 use Prim.Native.Nat.{ℕ, zero, suc, _+_, _-_, _*_, _/_, _%_}
 use mathlib.Core.List.{List, [], _∷_, _++_}
-use mathlib.Core.Bool.{Bool, true, _&&_}
+use mathlib.Core.Bool.{Bool, true, false, _&&_}
 use lib.ListN.{length, getD, take, drop}
 use lib.Dec.{ltb, leb, eqb}
 use Rattle.rules.specs.declared.Entry.{Entry}
@@ -146,6 +146,10 @@ unfoldable pub printed : Row → List ℕ
 printed row =
     decimal (row .number) ++ (32 ∷ row .word) ++ (32 ∷ decimal (row .total)) ++ (32 ∷ decimal (row .ceiling)) ++ (10 ∷ [])
 
+unfoldable pub printedAll : List Row → List ℕ
+printedAll [] = []
+printedAll (row ∷ rows) = printed row ++ printedAll rows
+
 -- A run so far: the memory, the reader's position, how many records have been numbered, and the rows printed.
 pub record Run : Type 0 where
   pub memory : Memory
@@ -171,20 +175,31 @@ printing run next o =
       rows = run .rows ++ (rowOf (suc (run .numbered)) o ∷ []);
     }
 
--- | Records refused with 7 or 8 leave all as it was, and are numbered and printed like the others; done prints nothing
-unfoldable pub perform : List ℕ → Run → ℕ → Entry → Run
-perform j run next (Read key w) = printing run next (readOutcome (run .memory) key w)
-perform j run next (Update key w) = printing run next (updateOutcome (run .memory) key w)
-perform j run next (Fill key place) = printing run next (fillOutcome (run .memory) key (pictureAt j place))
-perform j run next Age = printing run next (ageOutcome (run .memory))
-perform j run next (Entry.Refused n) = printing run next (outcome (Refused n) (run .memory))
-perform j run next Done = run
+-- what an entry does. (Done does nothing, and is not printed.)
+unfoldable pub performed : List ℕ → Entry → Memory → Outcome Answer Memory
+performed j (Read key w) m = readOutcome m key w
+performed j (Update key w) m = updateOutcome m key w
+performed j (Fill key place) m = fillOutcome m key (pictureAt j place)
+performed j Age m = ageOutcome m
+performed j (Entry.Refused n) m = outcome (Refused n) m
+performed j Done m = outcome Passed m
+
+unfoldable pub isEnd : Entry → Bool
+isEnd (Read key w) = false
+isEnd (Update key w) = false
+isEnd (Fill key place) = false
+isEnd Age = false
+isEnd (Entry.Refused n) = false
+isEnd Done = true
+
+-- | 7: all [left as it was]; the program reads on. 8: all; the program ends. Both are numbered and printed like the others.
+unfoldable pub perform : List ℕ → Run → Decoded → Run
+perform j run d = if isEnd (d .entry) then run else printing run (d .next) (performed j (d .entry) (run .memory))
 
 -- the next n records of a journal
 unfoldable pub runFor : List ℕ → Run → ℕ → Run
 runFor j run zero = run
-runFor j run (suc n) =
-    perform j (runFor j run n) (entryAt j (runFor j run n .at) .next) (entryAt j (runFor j run n .at) .entry)
+runFor j run (suc n) = perform j (runFor j run n) (entryAt j (runFor j run n .at))
 
 -- | A short end counts as one more record here.
 unfoldable pub entryCount : List ℕ → ℕ
