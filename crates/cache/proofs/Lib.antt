@@ -1,0 +1,4 @@
+pub mod Rooms
+pub mod Checks
+pub mod Tracked
+pub mod Lined

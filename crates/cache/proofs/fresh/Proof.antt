@@ -1,0 +1,34 @@
+-- `cache::fresh` meets its contract: the test of sizes decides, and a cleared table is the definition's. Assumes nothing.
+use borrow.Author.Needs.{needs}
+use Rattle.rules.specs.Table.{freshMemory, freshGauge}
+use Rattle.rules.specs.Calls.{verdict, sizesTest, unless, freshOutcome}
+use Rattle.cache.proofs.Checks.{fails, passes}
+use Rattle.cache.proofs.fresh.Statement.{statement}
+use Rattle.cache.proofs.fresh.Tie as tie
+
+sizes-good-requires : tie.Need-sizes-good-requires
+sizes-good-requires c κs = search needs
+
+same-length : tie.Need-same-length
+same-length c = search needs
+
+returns : tie.Need-returns
+unfolding freshOutcome unless verdict sizesTest
+returns c = rw (fails (c .before .sizes-good .ensures) (c .if1 .taken))
+
+clear-requires : tie.Need-clear-requires
+clear-requires c κs = search needs
+
+same-length-2 : tie.Need-same-length-2
+same-length-2 c = search needs
+
+returns-2 : tie.Need-returns-2
+unfolding freshOutcome unless verdict sizesTest freshMemory freshGauge
+returns-2 c =
+    let sizes = c .before .before .before .before in
+    rw (passes (sizes .before .sizes-good .ensures) (sizes .if1 .left), c .before .before .clear .ensures)
+
+pub fresh-spec : {M : Type 1} → statement M
+fresh-spec =
+    tie.close
+    (tie.spec sizes-good-requires same-length returns clear-requires same-length-2 returns-2)

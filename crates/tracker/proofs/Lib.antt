@@ -1,0 +1,3 @@
+pub mod Best
+pub mod First
+pub mod Marks

@@ -1,0 +1,37 @@
+-- `tracker::hotter_unlined` meets its contract: each way through the code is one of the step's. Assumes nothing.
+use borrow.Author.Needs.{needs}
+use borrow.Author.Tests.{lt-ltb, le-ltb}
+use Rattle.rules.specs.Table.{isUnlined, hotter}
+use Rattle.tracker.proofs.Best.{best-fails, best-alone, best-beats, best-stays}
+use Rattle.tracker.proofs.hotter_unlined.Statement.{statement}
+use Rattle.tracker.proofs.hotter_unlined.Tie as tie
+
+is-unlined-requires : tie.Need-is-unlined-requires
+is-unlined-requires c κs = search needs
+
+enum-told : tie.Need-enum-told
+enum-told c = search needs
+
+enum-known-held : tie.Need-enum-known-held
+enum-known-held c = search needs
+
+returns : tie.Need-returns
+returns c = best-alone isUnlined hotter _ _ _ (c .enum-told .given .1) (cc)
+
+returns-2 : tie.Need-returns-2
+unfolding hotter
+returns-2 c =
+    best-beats isUnlined hotter _ _ _ _ _ (c .before .before .before .before .held .given .1) (cc) (lt-ltb _ _ (c .if2 .taken))
+
+returns-3 : tie.Need-returns-3
+unfolding hotter
+returns-3 c =
+    best-stays isUnlined hotter _ _ _ _ _ (c .before .before .before .before .held .given .1) (cc) (le-ltb _ _ (c .if2 .left))
+
+returns-4 : tie.Need-returns-4
+returns-4 c = best-fails isUnlined hotter _ _ _ (cc)
+
+pub hotter-unlined-spec : {M : Type 1} → statement M
+hotter-unlined-spec =
+    tie.close
+    (tie.spec is-unlined-requires enum-told enum-known-held returns returns-2 returns-3 returns-4)

@@ -1,0 +1,54 @@
+-- `tracker::lookup` meets its contract: the arms are the definition's, at the record that `key_record` found. Assumes nothing.
+use borrow.Author.Needs.{needs}
+use Rattle.rules.specs.Table.{lookup, lookedUp}
+use Rattle.tracker.proofs.lookup.Statement.{statement}
+use Rattle.tracker.proofs.lookup.Tie as tie
+
+key-record-requires : tie.Need-key-record-requires
+key-record-requires c κs = search needs
+
+enum-told : tie.Need-enum-told
+enum-told c = search needs
+
+enum-known-i : tie.Need-enum-known-i
+enum-known-i c = search needs
+
+is-lined-requires : tie.Need-is-lined-requires
+is-lined-requires c κs = search needs
+
+line-of-requires : tie.Need-line-of-requires
+line-of-requires c κs = cc
+
+is-filled-requires : tie.Need-is-filled-requires
+is-filled-requires c κs = search needs
+
+returns : tie.Need-returns
+unfolding lookup lookedUp
+returns c = rw (← c .before .before .key-record .ensures, c .enum-told .given .1)
+
+returns-2 : tie.Need-returns-2
+unfolding lookup lookedUp
+returns-2 c =
+    let lined = c .before .before .before in
+    let at = lined .before .before in
+    rw (← at .before .before .key-record .ensures, at .i .given .1, ← lined .is-lined .ensures, c .before .before .if1 .taken) (cc)
+
+returns-3 : tie.Need-returns-3
+unfolding lookup lookedUp
+returns-3 c =
+    let at = c .before .before .before in
+    rw (← at .before .before .key-record .ensures, at .i .given .1, ← c .before .is-lined .ensures, c .if1 .left)
+
+pub lookup-spec : {M : Type 1} → statement M
+lookup-spec =
+    tie.close
+    (tie.spec
+    key-record-requires
+    enum-told
+    enum-known-i
+    is-lined-requires
+    line-of-requires
+    is-filled-requires
+    returns
+    returns-2
+    returns-3)
