@@ -1,3 +1,4 @@
+pub mod Computing
 pub mod Rows
 pub mod Words
 pub mod Places
@@ -22,3 +23,6 @@ pub mod Verdicts
 pub mod FreshHolds
 pub mod EveryList
 pub mod Refusals
+pub mod SampleList
+pub mod Idle
+pub mod Edges

@@ -8,3 +8,4 @@ pub mod Calls
 pub mod Journal
 pub mod Demand3
 pub mod Sample
+pub mod Idle

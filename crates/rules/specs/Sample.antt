@@ -1,9 +1,14 @@
--- Document 01's sample: the journal, byte by byte, and the rows that it prints.
-use Prim.Native.Nat.{ℕ}
+-- Document 01's sample: the journal, byte by byte, the rows and the text that it prints, and its calls as a list of demand 3.
+use Prim.Native.Nat.{ℕ, _*_}
 use mathlib.Core.List.{List, [], _∷_, _++_}
+use mathlib.Core.Bool.{true, false}
 use lib.ListN.{replicate}
-use Rattle.rules.specs.Table.{Memory, freshGauge}
+use Rattle.rules.specs.declared.Record.{Record}
+use Rattle.rules.specs.Bytes.{recordSize, lineSize, putRecord}
+use Rattle.rules.specs.Table.{Memory}
 use Rattle.rules.specs.Answers.{readKind, updateKind, fillKind, ageKind}
+use Rattle.rules.specs.Calls.{HostMemory, freshOutcome}
+use Rattle.rules.specs.Demand3.{read, update, fill, age, Call, Heard, heard}
 use Rattle.rules.specs.Journal.{Row, agedWord, changedWord, unknownWord, storedWord, passedWord, hitWord, wantedWord, refusedWord}
 
 -- a record of the journal, of a weight and a key below 256, and its picture, 64 bytes alike
@@ -29,9 +34,19 @@ sampleJournal =
     ++ sampleEntry readKind 9 1 0
     ++ sampleEntry readKind 9 1 0
 
--- | starts fresh with K = 3, C = 1
+-- | K = 3, C = 1
+-- What fresh is lent: no byte of it and neither number is zero.
+unfoldable pub sampleLent : Memory
+sampleLent =
+    record {
+      table = replicate (3 * recordSize) 255;
+      gauge = record { total = 6; ceiling = 7 };
+      lines = replicate (1 * lineSize) 170;
+    }
+
+-- | starts fresh
 unfoldable pub sampleStart : Memory
-sampleStart = record { table = replicate 96 0; gauge = freshGauge; lines = replicate 64 0 }
+sampleStart = freshOutcome sampleLent .after
 
 abbrev row : ℕ → List ℕ → ℕ → ℕ → Row
 row number word total ceiling = record { number = number; word = word; total = total; ceiling = ceiling }
@@ -53,3 +68,88 @@ sampleRows =
     ∷ row 12 passedWord 7 1
     ∷ row 13 wantedWord 8 1
     ∷ []
+
+-- | Output, whole: byte by byte, the last of each line a line feed
+unfoldable pub sampleText : List ℕ
+sampleText =
+    -- 1 wanted 3 0
+    49 ∷ 32 ∷ 119 ∷ 97 ∷ 110 ∷ 116 ∷ 101 ∷ 100 ∷ 32 ∷ 51 ∷ 32 ∷ 48 ∷ 10
+    -- 2 stored 3 0
+    ∷ 50 ∷ 32 ∷ 115 ∷ 116 ∷ 111 ∷ 114 ∷ 101 ∷ 100 ∷ 32 ∷ 51 ∷ 32 ∷ 48 ∷ 10
+    -- 3 hit 4 0
+    ∷ 51 ∷ 32 ∷ 104 ∷ 105 ∷ 116 ∷ 32 ∷ 52 ∷ 32 ∷ 48 ∷ 10
+    -- 4 passed 8 0
+    ∷ 52 ∷ 32 ∷ 112 ∷ 97 ∷ 115 ∷ 115 ∷ 101 ∷ 100 ∷ 32 ∷ 56 ∷ 32 ∷ 48 ∷ 10
+    -- 5 wanted 9 0
+    ∷ 53 ∷ 32 ∷ 119 ∷ 97 ∷ 110 ∷ 116 ∷ 101 ∷ 100 ∷ 32 ∷ 57 ∷ 32 ∷ 48 ∷ 10
+    -- 6 passed 11 0
+    ∷ 54 ∷ 32 ∷ 112 ∷ 97 ∷ 115 ∷ 115 ∷ 101 ∷ 100 ∷ 32 ∷ 49 ∷ 49 ∷ 32 ∷ 48 ∷ 10
+    -- 7 passed 12 2
+    ∷ 55 ∷ 32 ∷ 112 ∷ 97 ∷ 115 ∷ 115 ∷ 101 ∷ 100 ∷ 32 ∷ 49 ∷ 50 ∷ 32 ∷ 50 ∷ 10
+    -- 8 changed 12 2
+    ∷ 56 ∷ 32 ∷ 99 ∷ 104 ∷ 97 ∷ 110 ∷ 103 ∷ 101 ∷ 100 ∷ 32 ∷ 49 ∷ 50 ∷ 32 ∷ 50 ∷ 10
+    -- 9 unknown 12 2
+    ∷ 57 ∷ 32 ∷ 117 ∷ 110 ∷ 107 ∷ 110 ∷ 111 ∷ 119 ∷ 110 ∷ 32 ∷ 49 ∷ 50 ∷ 32 ∷ 50 ∷ 10
+    -- 10 refused-5 12 2
+    ∷ 49 ∷ 48 ∷ 32 ∷ 114 ∷ 101 ∷ 102 ∷ 117 ∷ 115 ∷ 101 ∷ 100 ∷ 45 ∷ 53 ∷ 32 ∷ 49 ∷ 50 ∷ 32 ∷ 50 ∷ 10
+    -- 11 aged 6 1
+    ∷ 49 ∷ 49 ∷ 32 ∷ 97 ∷ 103 ∷ 101 ∷ 100 ∷ 32 ∷ 54 ∷ 32 ∷ 49 ∷ 10
+    -- 12 passed 7 1
+    ∷ 49 ∷ 50 ∷ 32 ∷ 112 ∷ 97 ∷ 115 ∷ 115 ∷ 101 ∷ 100 ∷ 32 ∷ 55 ∷ 32 ∷ 49 ∷ 10
+    -- 13 wanted 8 1
+    ∷ 49 ∷ 51 ∷ 32 ∷ 119 ∷ 97 ∷ 110 ∷ 116 ∷ 101 ∷ 100 ∷ 32 ∷ 56 ∷ 32 ∷ 49 ∷ 10
+    ∷ []
+
+-- ---- the sample as a list of demand 3
+abbrev pub reading : ℕ → ℕ → Call
+reading key w = record { kind = read; key = key; weight = w; picture = [] }
+
+abbrev pub updating : ℕ → ℕ → Call
+updating key w = record { kind = update; key = key; weight = w; picture = [] }
+
+abbrev pub filling : ℕ → List ℕ → Call
+filling key picture = record { kind = fill; key = key; weight = 0; picture = picture }
+
+abbrev pub aging : Call
+aging = record { kind = age; key = 0; weight = 0; picture = [] }
+
+-- the pictures, each of 64 bytes alike
+abbrev pub samplePicture : ℕ → List ℕ
+samplePicture byte = replicate lineSize byte
+
+-- What the replay hears: a host's call with too few gauge bytes, then the thirteen.
+unfoldable pub sampleHeard : List Heard
+sampleHeard =
+    heard (reading 5 3) true
+    ∷ heard (reading 5 3) false
+    ∷ heard (filling 5 (samplePicture 105)) false
+    ∷ heard (reading 5 1) false
+    ∷ heard (reading 7 4) false
+    ∷ heard (reading 7 1) false
+    ∷ heard (reading 9 2) false
+    ∷ heard (reading 11 1) false
+    ∷ heard (updating 7 3) false
+    ∷ heard (updating 9 1) false
+    ∷ heard (filling 7 (samplePicture 107)) true
+    ∷ heard aging false
+    ∷ heard (reading 9 1) false
+    ∷ heard (reading 9 1) false
+    ∷ []
+
+-- The start as a C host lends it, with that many gauge bytes.
+unfoldable pub hostStart : ℕ → HostMemory
+hostStart n = record { table = sampleStart .table; gauge = replicate n 0; lines = sampleStart .lines }
+
+abbrev kept : ℕ → ℕ → ℕ → ℕ → Record
+kept key heat slack state = record { key = key; heat = heat; slack = slack; state = state }
+
+-- what the list leaves: 9 on line 0, which is empty; its bytes are those of the one accepted fill
+unfoldable pub sampleEnd : Memory
+sampleEnd =
+    record {
+      table =
+          putRecord (putRecord (putRecord (replicate (3 * recordSize) 0) 0 (kept 5 2 0 1)) 1 (kept 9 3 1 2)) 2
+          (kept 11 1 1 1);
+      gauge = record { total = 8; ceiling = 1 };
+      lines = samplePicture 105;
+    }

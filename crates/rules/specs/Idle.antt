@@ -1,0 +1,101 @@
+-- The five idle versions that have to break the contracts. Each but the one that refuses all is refused where its contract says so, and
+-- is idle only where a call is accepted.
+use Prim.Native.Nat.{ℕ, _+_}
+use mathlib.Core.Path.{_≡_}
+use mathlib.Core.List.{List, [], _∷_}
+use lib.ListN.{length, replicate}
+use lib.Dec.{eqb}
+use Rattle.rules.specs.declared.Gauge.{Gauge}
+use Rattle.rules.specs.declared.Found.{Found}
+use Rattle.rules.specs.declared.Found.the-variants.{Nowhere, At}
+use Rattle.rules.specs.declared.Answer.{Answer}
+use Rattle.rules.specs.declared.Answer.the-variants.{Unknown, Passed, Refused}
+use Rattle.rules.specs.Pass.{if_then_else_}
+use Rattle.rules.specs.Table.{Memory, keyRecord, places, size, withTable, withGauge}
+use Rattle.rules.specs.Answers.{noLine, wrongSizes, isRefused}
+use Rattle.rules.specs.Steps.{Outcome, outcome, makeRoom, grown, readAnswer, readSteps}
+use Rattle.rules.specs.Calls.{unless, leaving, readVerdict, updateVerdict, fillVerdict, readOutcome, updateOutcome, fillOutcome}
+use Rattle.rules.specs.Demand3.{Call, Heard, heard, unheard, replay, Demand3}
+use Rattle.rules.specs.Sample.{sampleStart}
+
+-- ---- the contracts
+-- | Each callable function's contract gives its answer and every lent byte and gauge number afterwards by equations with the steps
+abbrev pub MeetsRead : (Memory → ℕ → ℕ → Outcome Answer Memory) → Type 0
+MeetsRead call = (m : Memory) (key w : ℕ) → call m key w ≡ readOutcome m key w
+
+abbrev pub MeetsUpdate : (Memory → ℕ → ℕ → Outcome Answer Memory) → Type 0
+MeetsUpdate call = (m : Memory) (key w : ℕ) → call m key w ≡ updateOutcome m key w
+
+abbrev pub MeetsFill : (Memory → ℕ → List ℕ → Outcome Answer Memory) → Type 0
+MeetsFill call = (m : Memory) (key : ℕ) (picture : List ℕ) → call m key picture ≡ fillOutcome m key picture
+
+-- ---- the versions
+-- | one that says 5 .. before looking
+unfoldable pub idleFill : Memory → ℕ → List ℕ → Outcome Answer Memory
+idleFill m key picture = unless (fillVerdict m picture) (leaving m) (outcome (Refused noLine) m)
+
+-- | or unknown before looking
+unfoldable pub idleUpdate : Memory → ℕ → ℕ → Outcome Answer Memory
+idleUpdate m key w = unless (updateVerdict m w) (leaving m) (outcome Unknown m)
+
+-- | one that answers passed to each read
+unfoldable pub passingRead : Memory → ℕ → ℕ → Outcome Answer Memory
+passingRead m key w = unless (readVerdict m w) (leaving m) (outcome Passed m)
+
+-- | and then only echoes: the answer is as the table stands
+unfoldable pub echo : Found → Answer
+echo Nowhere = Passed
+echo (At i r) = readAnswer r
+
+-- | one that tracks the first read: the one that finds a total of 0
+unfoldable pub echoingSteps : Memory → ℕ → ℕ → Outcome Answer Memory
+echoingSteps m key w =
+    if eqb (m .gauge .total) 0 then readSteps m key w else outcome (echo (keyRecord key (places m) (size m))) m
+
+unfoldable pub echoingRead : Memory → ℕ → ℕ → Outcome Answer Memory
+echoingRead m key w = unless (readVerdict m w) (leaving m) (echoingSteps m key w)
+
+-- | one that leaves the table empty: the answer and the total are a read's
+unfoldable pub emptySteps : Memory → ℕ → ℕ → Outcome Answer Memory
+emptySteps m key w =
+    outcome (readSteps m key w .answer) (withTable (replicate (length (m .table)) 0) (grown w (makeRoom w m)))
+
+unfoldable pub emptyRead : Memory → ℕ → ℕ → Outcome Answer Memory
+emptyRead m key w = unless (readVerdict m w) (leaving m) (emptySteps m key w)
+
+-- | or refuses all
+unfoldable pub refusingRead : Memory → ℕ → ℕ → Outcome Answer Memory
+refusingRead m key w = leaving m wrongSizes
+
+-- | one with an invented total or ceiling: all but the gauge is as a read leaves it
+unfoldable pub inventing : (Gauge → Gauge) → Memory → ℕ → ℕ → Outcome Answer Memory
+inventing invent m key w =
+    unless (readVerdict m w) (leaving m)
+    (outcome (readSteps m key w .answer)
+    (withGauge (invent (readSteps m key w .after .gauge)) (readSteps m key w .after)))
+
+-- a total of one too many
+unfoldable pub inventingTotal : Memory → ℕ → ℕ → Outcome Answer Memory
+inventingTotal = inventing (λ g. record { total = g .total + 1; ceiling = g .ceiling })
+
+-- the total for a ceiling
+unfoldable pub inventingCeiling : Memory → ℕ → ℕ → Outcome Answer Memory
+inventingCeiling = inventing (λ g. record { total = g .total; ceiling = g .total })
+
+-- ---- demand 3 of a version of read
+-- | 3 by the replay
+-- what it leaves after reads, one after another
+unfoldable pub leftBy : (Memory → ℕ → ℕ → Outcome Answer Memory) → Memory → List Call → Memory
+leftBy call m [] = m
+leftBy call m (c ∷ cs) = leftBy call (call m (c .key) (c .weight) .after) cs
+
+-- what the replay hears of them
+unfoldable pub heardBy : (Memory → ℕ → ℕ → Outcome Answer Memory) → Memory → List Call → List Heard
+heardBy call m [] = []
+heardBy call m (c ∷ cs) =
+    heard c (isRefused (call m (c .key) (c .weight) .answer)) ∷ heardBy call (call m (c .key) (c .weight) .after) cs
+
+-- demand 3 after them, from the sample's start
+abbrev pub Demand3By : (Memory → ℕ → ℕ → Outcome Answer Memory) → List Call → Type 0
+Demand3By call cs =
+    Demand3 (leftBy call sampleStart cs) (size (leftBy call sampleStart cs)) (replay unheard (heardBy call sampleStart cs))
