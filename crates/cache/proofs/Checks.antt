@@ -1,4 +1,4 @@
--- What the verdicts share: a test's function says what the test does, and good sizes leave few enough lines for the test of order.
+-- What a branch on a test's function says of the test, and that good sizes leave few enough lines for the test of order.
 -- Assumes nothing.
 use Prim.Native.Nat.{ℕ, _/_, _≤_}
 use mathlib.Core.Path.{_≡_, sym, _∙_}
@@ -11,7 +11,7 @@ use Rattle.rules.specs.Bytes.{lineSize, lineCount}
 use Rattle.rules.specs.Calls.{mostRecords, sizesGood}
 use Rattle.rules.proofs.Memories.{sizes-say}
 
--- `if !test() { .. }`, inside and after
+-- inside `if !test() { .. }`, and after it
 pub fails : {b good : Bool} → b ≡ good → not b ≡ true → good ≡ false
 fails {b} e inside = sym e ∙ not-true b inside
 

@@ -2,7 +2,7 @@
 // what the definitions of its outcome say, byte for byte.
 ghost use mathlib.Core.Path.{_≡_};
 ghost use mathlib.Core.Bool.{true, false};
-ghost use mathlib.Core.List.{_++_};
+ghost use mathlib.Core.List.{[], _∷_, _++_};
 ghost use Prim.Native.Nat.{_+_, _*_, _≤_, _<_, _^_};
 ghost use lib.ListN.{length, take, drop, replicate};
 ghost use Rattle.rules.specs.declared.Found.the-variants.{Nowhere};
@@ -12,7 +12,7 @@ ghost use Rattle.rules.specs.Pass.{sumOf};
 ghost use Rattle.rules.specs.Table.{mostTotal, isLined, heated, cooled, agedRecord, newRecord, withState, unlined, onEmptyLine, emptied, filled, lineOf, freeRecord, victim, changeAll, write, places, size};
 ghost use Rattle.rules.specs.Answers.{numberOf};
 ghost use Rattle.rules.specs.Steps.{outcome, aged, readAnswer, giveLine, handOver, makeRoom, grown, track, raised, settle, admit, place, readCounted, readSteps, defend, updateSteps, fillSteps, level};
-ghost use Rattle.rules.specs.Calls.{mostRecords, mostWeight, lent, left, started, sizesGood, readVerdict, updateVerdict, fillVerdict, plainVerdict, freshOutcome, readOutcome, updateOutcome, fillOutcome, ageOutcome, showLine, levelledOutcome};
+ghost use Rattle.rules.specs.Calls.{mostRecords, mostWeight, lent, left, started, sizesGood, must, verdict, sizesTest, orderTest, readVerdict, updateVerdict, fillVerdict, plainVerdict, freshOutcome, readOutcome, updateOutcome, fillOutcome, ageOutcome, showLine, levelledOutcome};
 ghost use Rattle.cache.specs.Room.{HeatsFit, LinesFit, LevelsFit};
 ghost use Rattle.cache.specs.AsLent.{AsLent};
 use records::RECORD_SIZE;
@@ -65,67 +65,46 @@ fn sizes_good(table: &[u8], lines: &[u8]) -> bool
     c < n
 }
 
-fn plain_verdict(table: &[u8], gauge: Gauge, lines: &[u8]) -> Verdict
-    ensures { λ v. ⌜ v ≡ plainVerdict (lent (now (table .entry)) gauge (now (lines .entry))) ⌝ }
+// The tests of sizes and of order, with a test of the call's own between them: whether it was good, and its number.
+fn checked(table: &[u8], gauge: Gauge, lines: &[u8], good: bool, number: u64) -> Verdict
+    ensures { λ v. ⌜ v ≡ verdict (sizesTest (lent (now (table .entry)) gauge (now (lines .entry))) ∷ must good number ∷ orderTest (lent (now (table .entry)) gauge (now (lines .entry))) ∷ []) ⌝ }
 {
     if !sizes_good(table, lines) {
         return Verdict::Refused(1);
     }
-    if !in_order(table, gauge, lines.len() / LINE_SIZE) {
+    let ordered = in_order(table, gauge, lines.len() / LINE_SIZE);
+    if !good {
+        return Verdict::Refused(number);
+    }
+    if !ordered {
         return Verdict::Refused(3);
     }
     Verdict::Accepted
+}
+
+// For a call without a test of its own.
+fn plain_verdict(table: &[u8], gauge: Gauge, lines: &[u8]) -> Verdict
+    ensures { λ v. ⌜ v ≡ plainVerdict (lent (now (table .entry)) gauge (now (lines .entry))) ⌝ }
+{
+    checked(table, gauge, lines, true, 0)
 }
 
 fn read_verdict(table: &[u8], gauge: Gauge, lines: &[u8], weight: u64) -> Verdict
     ensures { λ v. ⌜ v ≡ readVerdict (lent (now (table .entry)) gauge (now (lines .entry))) weight ⌝ }
 {
-    if !sizes_good(table, lines) {
-        return Verdict::Refused(1);
-    }
-    if weight < 1 {
-        return Verdict::Refused(2);
-    }
-    if 65535 < weight {
-        return Verdict::Refused(2);
-    }
-    if !in_order(table, gauge, lines.len() / LINE_SIZE) {
-        return Verdict::Refused(3);
-    }
-    Verdict::Accepted
+    checked(table, gauge, lines, 1 <= weight && weight <= 65535, 2)
 }
 
 fn update_verdict(table: &[u8], gauge: Gauge, lines: &[u8], weight: u64) -> Verdict
     ensures { λ v. ⌜ v ≡ updateVerdict (lent (now (table .entry)) gauge (now (lines .entry))) weight ⌝ }
 {
-    if !sizes_good(table, lines) {
-        return Verdict::Refused(1);
-    }
-    if weight < 1 {
-        return Verdict::Refused(2);
-    }
-    if 65535 < weight {
-        return Verdict::Refused(2);
-    }
-    if !in_order(table, gauge, lines.len() / LINE_SIZE) {
-        return Verdict::Refused(3);
-    }
-    Verdict::Accepted
+    checked(table, gauge, lines, 1 <= weight && weight <= 65535, 2)
 }
 
 fn fill_verdict(table: &[u8], gauge: Gauge, lines: &[u8], picture: &[u8]) -> Verdict
     ensures { λ v. ⌜ v ≡ fillVerdict (lent (now (table .entry)) gauge (now (lines .entry))) (now (picture .entry)) ⌝ }
 {
-    if !sizes_good(table, lines) {
-        return Verdict::Refused(1);
-    }
-    if picture.len() != LINE_SIZE {
-        return Verdict::Refused(4);
-    }
-    if !in_order(table, gauge, lines.len() / LINE_SIZE) {
-        return Verdict::Refused(3);
-    }
-    Verdict::Accepted
+    checked(table, gauge, lines, picture.len() == LINE_SIZE, 4)
 }
 
 // ---- what happens to a record
@@ -452,8 +431,8 @@ fn update_steps(table: &mut [u8], gauge: Gauge, lines: &[u8], key: u64, weight: 
     ensures { λ r. ⌜ left r (now (table .exit)) (now (lines .entry)) ≡ updateSteps (lent (now (table .entry)) gauge (now (lines .entry))) key weight ⌝ }
     ensures { λ r. ⌜ numberOf (r .answer) < 2 ^ 64 ⌝ }
 {
-    let found = key_record(table, key);
-    let Found::At(i, r) = found else {
+    let tracked = key_record(table, key);
+    let Found::At(i, r) = tracked else {
         return Reply {
             answer: Answer::Unknown,
             gauge,

@@ -1,5 +1,5 @@
--- The proof of the cycle of calls {sum_levels}: the sum is the first half's and the rest's, where the rest is read as a part of its own.
--- The measure is the number of records. Assumes nothing.
+-- The proof of the cycle of calls {sum_levels}: the sum is the first half's and the rest's, the rest read as a part of its own. The
+-- measure is the number of records. Assumes nothing.
 use Prim.Native.Nat.{ℕ, _+_, _-_, _*_, _/_, _≤_, _<_, max}
 use mathlib.Core.Path.{_≡_, refl, sym}
 use mathlib.Core.Bool.{Bool, true, false}

@@ -33,7 +33,8 @@ returns-2 : tie.Need-returns-2
 unfolding ageOutcome unless ageSteps numberOf
 returns-2 c =
     let accepted = c .before .before .before .before in
-    (rw (← accepted .before .before .plain-verdict .ensures, accepted .enum-told .given .1, ← c .before .before .age-all .ensures), search needs)
+    let verdict = accepted .before .before .plain-verdict .ensures in
+    (rw (← verdict, accepted .enum-told .given .1, ← c .before .before .age-all .ensures), search needs)
 
 pub age-spec : {M : Type 1} → statement M
 age-spec =

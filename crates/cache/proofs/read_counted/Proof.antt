@@ -55,8 +55,8 @@ settle-requires c κs =
     let (weight, heats, lines) = told .before .before .before .before .before .before .pre in (
       search needs,
       rw (c .before .before .before .put-record .ensures)
-      (lines-write _ _ _ lines (found .inside) is
-      (rw (warmed .heated .ensures, found .is) (lines .state _ (found .inside)))),
+          (lines-write _ _ _ lines (found .inside) is
+          (rw (warmed .heated .ensures, found .is) (lines .state _ (found .inside)))),
     )
 
 same-length-2 : tie.Need-same-length-2

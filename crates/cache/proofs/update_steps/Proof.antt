@@ -22,8 +22,8 @@ use Rattle.cache.proofs.update_steps.Tie as tie
 key-record-requires : tie.Need-key-record-requires
 key-record-requires c κs = search needs
 
-enum-known-found : tie.Need-enum-known-found
-enum-known-found c = search needs
+enum-known-tracked : tie.Need-enum-known-tracked
+enum-known-tracked c = search needs
 
 enum-told : tie.Need-enum-told
 enum-told c = search needs
@@ -44,7 +44,7 @@ emptied-requires c κs = search needs
 put-record-requires : tie.Need-put-record-requires
 put-record-requires c κs =
     let told = c .before .before .before .before in
-    key-found _ _ _ _ _ (sym (told .before .before .key-record .ensures) ∙ told .found .given .1) .inside
+    key-found _ _ _ _ _ (sym (told .before .before .key-record .ensures) ∙ told .tracked .given .1) .inside
 
 emptied-most : (r : Record) (n : ℕ) → r .state ≤ 1 + 2 * n → emptied r .state ≤ 1 + 2 * n
 unfolding emptied isLined onEmptyLine withState emptyState lineOf
@@ -59,7 +59,7 @@ unfolding recordCount cooled withHeat places size write withTable
 defend-requires c κs =
     let freed = c .before .before .before .before in
     let told = freed .before .before .before .before in
-    let found = key-found _ _ _ _ _ (sym (told .before .before .key-record .ensures) ∙ told .found .given .1) in
+    let found = key-found _ _ _ _ _ (sym (told .before .before .key-record .ensures) ∙ told .tracked .given .1) in
     let is : IsRecord (freed .emptied .result) = omega (arith, freed .emptied .ok) in
     let fits = told .before .before .before .before .before .before .pre in
     let most = rw (← found .is) at (fits .state _ (found .inside)) in (
@@ -79,7 +79,7 @@ returns-2 c =
     let told = freed .before .before .before .before in (
       rw (
         ← told .before .before .key-record .ensures,
-        told .found .given .1,
+        told .tracked .given .1,
         ← freed .before .cooled .ensures,
         ← freed .emptied .ensures,
         ← c .before .before .before .before .before .before .put-record .ensures,
@@ -93,7 +93,7 @@ update-steps-spec =
     tie.close
     (tie.spec
     key-record-requires
-    enum-known-found
+    enum-known-tracked
     enum-told
     same-length
     returns

@@ -1,0 +1,27 @@
+-- What an exported call does, from what its call of the cache does: with a gauge of the right size the call's number and what it
+-- leaves, the gauge as bytes; with any other the number 1 and everything as it was. Assumes nothing.
+use Prim.Native.Nat.{ℕ}
+use mathlib.Core.Path.{_≡_}
+use mathlib.Core.List.{List}
+use borrow.Author.Tests.{eq-eqb, ne-eqb}
+use lib.ListN.{length}
+use Rattle.rules.specs.declared.Answer.{Answer}
+use Rattle.rules.specs.declared.Gauge.{Gauge}
+use Rattle.rules.specs.Bytes.{gaugeSize, gaugeAt, putGauge}
+use Rattle.rules.specs.Answers.{numberOf, wrongSizes}
+use Rattle.rules.specs.Table.{Memory}
+use Rattle.rules.specs.Steps.{Outcome, outcome}
+use Rattle.rules.specs.Calls.{lent, verdict, unless, hostLent, held, stored, gaugeTest, hosted, exported}
+
+module _ (call : Memory → Outcome Answer Memory) (table gauge lines : List ℕ) where
+  pub wrong-gauge : (length gauge ≡ gaugeSize → ⊥) →
+      outcome wrongSizes (hostLent table gauge lines) ≡ exported call (hostLent table gauge lines)
+  unfolding exported hosted gaugeTest verdict unless numberOf
+  wrong-gauge differs = rw (ne-eqb _ _ differs)
+
+  pub right-gauge : {table′ gauge′ lines′ : List ℕ} {g g′ : Gauge} {a : Answer} {n : ℕ} →
+      length gauge ≡ gaugeSize → g ≡ gaugeAt gauge → outcome a (lent table′ g′ lines′) ≡ call (lent table g lines) →
+      n ≡ numberOf a → gauge′ ≡ putGauge gauge g′ →
+      outcome n (hostLent table′ gauge′ lines′) ≡ exported call (hostLent table gauge lines)
+  unfolding exported hosted gaugeTest verdict unless held stored
+  right-gauge sized is done number put = rw (eq-eqb _ _ sized, ← is, ← done, number, put)

@@ -1,0 +1,22 @@
+-- `cot::put_gauge` meets its contract: each put keeps the length, so the next is allowed, and together they are the definition's.
+-- Assumes nothing.
+use Rattle.rules.specs.Bytes.{putGauge}
+use borrow.Author.Needs.{needs}
+use Rattle.cot.proofs.put_gauge.Statement.{statement}
+use Rattle.cot.proofs.put_gauge.Tie as tie
+
+put-u64-requires : tie.Need-put-u64-requires
+put-u64-requires c κs = search needs
+
+put-u64-requires-2 : tie.Need-put-u64-requires-2
+put-u64-requires-2 c κs = search needs
+
+same-length : tie.Need-same-length
+same-length c = search needs
+
+returns : tie.Need-returns
+unfolding putGauge
+returns c = cc
+
+pub put-gauge-spec : {M : Type 1} → statement M
+put-gauge-spec = tie.close (tie.spec put-u64-requires put-u64-requires-2 same-length returns)

@@ -1,0 +1,121 @@
+// The functions that a C program links: the calls of the cache with the gauge as lent bytes, each returning one number.
+ghost use mathlib.Core.Path.{_≡_};
+ghost use Prim.Native.Nat.{_<_, _^_};
+ghost use lib.ListN.{length};
+ghost use Rattle.rules.specs.Bytes.{gaugeSize, gaugeAt, putGauge};
+ghost use Rattle.rules.specs.Answers.{numberOf};
+ghost use Rattle.rules.specs.Steps.{outcome};
+ghost use Rattle.rules.specs.Calls.{hostLent, exported, readOutcome, updateOutcome, fillOutcome, ageOutcome};
+use records::get_u64;
+use records::put_u64;
+use rules::Answer;
+use rules::Gauge;
+
+// The size of a host's gauge, in bytes.
+pub const GAUGE_SIZE: usize = 16;
+
+fn gauge_at(bytes: &[u8]) -> Gauge
+    requires { ⌜ length (now bytes) ≡ gaugeSize ⌝ }
+    ensures { λ g. ⌜ g ≡ gaugeAt (now (bytes .entry)) ⌝ }
+{
+    Gauge {
+        total: get_u64(bytes, 0),
+        ceiling: get_u64(bytes, 8),
+    }
+}
+
+fn put_gauge(bytes: &mut [u8], g: Gauge)
+    requires { ⌜ length (now bytes) ≡ gaugeSize ⌝ }
+    ensures { λ _. ⌜ now (bytes .exit) ≡ putGauge (now (bytes .entry)) g ⌝ }
+{
+    put_u64(bytes, 0, g.total);
+    put_u64(bytes, 8, g.ceiling);
+}
+
+// The number of an answer.
+fn number_of(a: Answer) -> u64
+    requires { ⌜ numberOf a < 2 ^ 64 ⌝ }
+    ensures { λ n. ⌜ n ≡ numberOf a ⌝ }
+{
+    match a {
+        Answer::Aged => 100,
+        Answer::Changed => 101,
+        Answer::Unknown => 102,
+        Answer::Stored => 103,
+        Answer::Passed => 104,
+        Answer::Hit(n) => 2000 + n,
+        Answer::Wanted(n) => 4000 + n,
+        Answer::Refused(n) => n,
+    }
+}
+
+// Counts weight pieces of a class, and answers where its picture is.
+#[no_mangle]
+pub extern "C" fn cot_read(
+    table: &mut [u8],
+    gauge: &mut [u8],
+    lines: &[u8],
+    key: u64,
+    weight: u64,
+) -> u64
+    ensures { λ n. ⌜ outcome n (hostLent (now (table .exit)) (now (gauge .exit)) (now (lines .entry))) ≡ exported (λ m. readOutcome m key weight) (hostLent (now (table .entry)) (now (gauge .entry)) (now (lines .entry))) ⌝ }
+{
+    if gauge.len() != GAUGE_SIZE {
+        return 1;
+    }
+    let reply = cache::read(table, gauge_at(gauge), lines, key, weight);
+    put_gauge(gauge, reply.gauge);
+    let answer = reply.answer;
+    number_of(answer)
+}
+
+// Cools a class whose picture has changed, and empties its line.
+#[no_mangle]
+pub extern "C" fn cot_update(
+    table: &mut [u8],
+    gauge: &mut [u8],
+    lines: &[u8],
+    key: u64,
+    weight: u64,
+) -> u64
+    ensures { λ n. ⌜ outcome n (hostLent (now (table .exit)) (now (gauge .exit)) (now (lines .entry))) ≡ exported (λ m. updateOutcome m key weight) (hostLent (now (table .entry)) (now (gauge .entry)) (now (lines .entry))) ⌝ }
+{
+    if gauge.len() != GAUGE_SIZE {
+        return 1;
+    }
+    let updated = cache::update(table, gauge_at(gauge), lines, key, weight);
+    put_gauge(gauge, updated.gauge);
+    let answer = updated.answer;
+    number_of(answer)
+}
+
+// Stores the picture of a class into its line.
+#[no_mangle]
+pub extern "C" fn cot_fill(
+    table: &mut [u8],
+    gauge: &[u8],
+    lines: &mut [u8],
+    key: u64,
+    picture: &[u8],
+) -> u64
+    ensures { λ n. ⌜ outcome n (hostLent (now (table .exit)) (now (gauge .entry)) (now (lines .exit))) ≡ exported (λ m. fillOutcome m key (now (picture .entry))) (hostLent (now (table .entry)) (now (gauge .entry)) (now (lines .entry))) ⌝ }
+{
+    if gauge.len() != GAUGE_SIZE {
+        return 1;
+    }
+    number_of(cache::fill(table, gauge_at(gauge), lines, key, picture))
+}
+
+// Halves every heat, total and ceiling downward and every slack upward.
+#[no_mangle]
+pub extern "C" fn cot_age(table: &mut [u8], gauge: &mut [u8], lines: &[u8]) -> u64
+    ensures { λ n. ⌜ outcome n (hostLent (now (table .exit)) (now (gauge .exit)) (now (lines .entry))) ≡ exported ageOutcome (hostLent (now (table .entry)) (now (gauge .entry)) (now (lines .entry))) ⌝ }
+{
+    if gauge.len() != GAUGE_SIZE {
+        return 1;
+    }
+    let aged = cache::age(table, gauge_at(gauge), lines);
+    put_gauge(gauge, aged.gauge);
+    let answer = aged.answer;
+    number_of(answer)
+}

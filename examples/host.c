@@ -1,0 +1,105 @@
+/* host.c: how a C host uses the cache.
+ *
+ *     gcc -std=c11 -O2 -Iinclude examples/host.c target/staticlib/libcot.a -o host && ./host
+ */
+#include "cot.h"
+
+#include <inttypes.h>
+#include <stdio.h>
+#include <string.h>
+
+enum { K = 4, C = 1 };
+
+static uint8_t table[K * COT_RECORD_BYTES];
+static uint8_t gauge[COT_GAUGE_BYTES];
+static uint8_t lines[C * COT_LINE_BYTES];
+
+/* A stand-in for the slow store: the picture of a class depends on its key and its version. */
+static unsigned version = 1;
+
+static void fetch(uint64_t key, uint8_t picture[COT_LINE_BYTES])
+{
+    memset(picture, 0, COT_LINE_BYTES);
+    snprintf((char *)picture, COT_LINE_BYTES, "picture of class %" PRIu64 ", version %u", key,
+             version);
+    printf("  fetched from the store\n");
+}
+
+/* Stops the host when a call is refused: it would be a fault of the host. */
+static int checked(uint64_t number)
+{
+    if (cot_is_refused(number)) {
+        printf("  refused: %" PRIu64 "\n", number);
+        return 0;
+    }
+    return 1;
+}
+
+/* Some pieces of a class are waiting: its picture is used, from its line if it is there. */
+static int sort(uint64_t key, uint64_t pieces)
+{
+    uint8_t picture[COT_LINE_BYTES];
+    const uint8_t *use = picture;
+
+    printf("class %" PRIu64 ", pieces waiting: %" PRIu64 "\n", key, pieces);
+    uint64_t number = cot_read(table, sizeof table, gauge, sizeof gauge, lines, sizeof lines, key,
+                               pieces);
+    if (!checked(number))
+        return 0;
+    if (cot_is_hit(number)) {
+        printf("  hit on line %zu\n", cot_line(number));
+        use = lines + COT_LINE_BYTES * cot_line(number);
+    } else if (cot_is_wanted(number)) {
+        printf("  wanted on line %zu\n", cot_line(number));
+        fetch(key, picture);
+        if (!checked(cot_fill(table, sizeof table, gauge, sizeof gauge, lines, sizeof lines, key,
+                              picture, sizeof picture)))
+            return 0;
+        printf("  filled\n");
+    } else {
+        printf("  passed: not hot enough for a line\n");
+        fetch(key, picture);
+    }
+    printf("  used: %s\n", (const char *)use);
+    return 1;
+}
+
+/* The picture of a class changes in the store; the cache is told so after that. */
+static int change(uint64_t key)
+{
+    version++;
+    printf("the picture of class %" PRIu64 " changes\n", key);
+    uint64_t number = cot_update(table, sizeof table, gauge, sizeof gauge, lines, sizeof lines,
+                                 key, 1);
+    if (!checked(number))
+        return 0;
+    printf("  %s\n", number == COT_CHANGED ? "changed" : "unknown");
+    return 1;
+}
+
+static int age(void)
+{
+    printf("the heats age\n");
+    uint64_t number = cot_age(table, sizeof table, gauge, sizeof gauge, lines, sizeof lines);
+    if (!checked(number))
+        return 0;
+    printf("  aged\n");
+    return 1;
+}
+
+int main(void)
+{
+    /* A fresh cache: the table and the gauge are zero. The lines may hold any bytes. */
+    memset(table, 0, sizeof table);
+    memset(gauge, 0, sizeof gauge);
+
+    int good = sort(5, 3)     /* wanted: the picture is fetched and filled */
+               && sort(5, 1)  /* hit */
+               && sort(7, 2)  /* passed: class 5 is hotter and there is one line */
+               && change(5)   /* the line of class 5 becomes empty */
+               && sort(5, 1)  /* wanted again */
+               && sort(5, 1)  /* hit, with the new picture */
+               && age()       /* every heat is halved; the picture stays */
+               && sort(5, 1); /* hit */
+    return good ? 0 : 1;
+}

@@ -1,0 +1,34 @@
+#!/bin/sh
+# The C host: the header as C and as C++, examples/host.c, and document 01's sample calls.
+set -eu
+cd "$(dirname "$0")/.."
+
+library=target/staticlib/libcot.a
+out=target/tests
+mkdir -p "$out"
+if [ ! -f "$library" ]; then
+    echo "10_c_host: $library is not there; building it takes a while"
+    rt staticlib cot
+fi
+
+printf '#include "cot.h"\n' >"$out/header.c"
+printf '#include "cot.h"\n' >"$out/header.cpp"
+gcc -std=c11 -Wall -Wextra -Werror -O2 -Iinclude -fsyntax-only "$out/header.c"
+g++ -std=c++17 -Wall -Wextra -Werror -Iinclude -fsyntax-only "$out/header.cpp"
+
+# run NAME SOURCE: compiles, runs, and compares the output with tests/c/NAME.expected.
+run() {
+    gcc -std=c11 -Wall -Wextra -Werror -O2 -Iinclude "$2" "$library" -o "$out/$1"
+    if ! "$out/$1" >"$out/$1.out"; then
+        echo "10_c_host: FAILED: $2 ended with an error" >&2
+        exit 1
+    fi
+    if ! diff -u "tests/c/$1.expected" "$out/$1.out"; then
+        echo "10_c_host: FAILED: $2 printed something else than tests/c/$1.expected" >&2
+        exit 1
+    fi
+}
+
+run host examples/host.c
+run sample tests/c/sample.c
+echo "10_c_host: header good as C and C++; host.c and $(wc -l <tests/c/sample.expected) sample lines as expected"

@@ -1,0 +1,737 @@
+//! Group (a): single calls on damaged memory.
+
+use crate::harness::{both, Memory};
+use crate::model::{
+    empty_on, filled_on, gauge_of, not_in_order, put_gauge, put_number, put_records, records_of,
+    wrong_picture, wrong_sizes, wrong_weight, Call, Model, Path, Record,
+};
+use crate::model::{L, LINE_BYTES, MOST_WEIGHT, RECORD_BYTES, TRACKED};
+use crate::random::Random;
+use crate::Counts;
+
+/// Every answer and refusal of each call. Each must come.
+pub const ANSWERS: [&str; 20] = [
+    "read 1",
+    "read 2",
+    "read 3",
+    "read passed",
+    "read hit",
+    "read wanted",
+    "update 1",
+    "update 2",
+    "update 3",
+    "update changed",
+    "update unknown",
+    "fill 1",
+    "fill 4",
+    "fill 3",
+    "fill 5",
+    "fill 6",
+    "fill stored",
+    "age 1",
+    "age 3",
+    "age aged",
+];
+
+/// Every step and every part of a cause (alone), and every pair of causes. Each must come.
+pub const STEPS: [&str; 43] = [
+    "1: table not whole records",
+    "1: K outside 1 to 1,024",
+    "1: lines not whole",
+    "1: C not under K",
+    "1: gauge bytes not 16",
+    "3: total over L",
+    "3: ceiling over total",
+    "3: a heat over total",
+    "3: a state over 1 + 2 C",
+    "3: a free record not zero",
+    "3: over C records on lines",
+    "5: no record",
+    "5: no line",
+    "1 and 2",
+    "1 and 4",
+    "2 and 3",
+    "4 and 3",
+    "3 and 5",
+    "3 and 6",
+    "read 1: not aged",
+    "read 1: aged first",
+    "read 2: tracked",
+    "read 3: free record",
+    "read 4: ceiling raised",
+    "read 4: victim at ceiling",
+    "read 4: victim under ceiling",
+    "read 4: victim first among equals",
+    "read 5: has a line",
+    "read 5: unused line",
+    "read 5: no lines at all",
+    "read 5: takes the coldest's line",
+    "read 5: coldest first among equals",
+    "read 5: equal heat",
+    "read 5: colder",
+    "update: heat stops at 0",
+    "update: heat falls by w",
+    "update: no line",
+    "update: line kept",
+    "update: line kept, equal heat",
+    "update: line moves",
+    "update: hottest first among equals",
+    "doubled key",
+    "doubled line",
+];
+
+/// Special inputs: good ones in an accepted call, bad ones in a call refused for that cause. Each
+/// must come.
+pub const INPUTS: [&str; 29] = [
+    "K = 1",
+    "K = 1,023",
+    "K = 1,024",
+    "K = 1,025",
+    "table of 0 bytes",
+    "table of 32,800 bytes",
+    "lines of 63 bytes",
+    "gauge of 0 bytes",
+    "gauge of 15 bytes",
+    "gauge of 17 bytes",
+    "key 0",
+    "key 2^64 - 1",
+    "weight 0",
+    "weight 1",
+    "weight 65,535",
+    "weight 65,536",
+    "weight 2^64 - 1",
+    "picture of 0 bytes",
+    "picture of 63 bytes",
+    "picture of 64 bytes",
+    "picture of 65 bytes",
+    "total L - 1",
+    "total L",
+    "total L + 1",
+    "total 2^64 - 1",
+    "a slack 2^64 - 1",
+    "a state 1 + 2 C",
+    "a state 2 + 2 C",
+    "a state 2^64 - 1",
+];
+
+/// The name under which a returned number is counted.
+pub fn answer_name(call: &Call, number: u64) -> &'static str {
+    let kind = match call {
+        Call::Read { .. } => "read ",
+        Call::Update { .. } => "update ",
+        Call::Fill { .. } => "fill ",
+        Call::Age => "age ",
+    };
+    let end = match number {
+        1 => "1",
+        2 => "2",
+        3 => "3",
+        4 => "4",
+        5 => "5",
+        6 => "6",
+        100 => "aged",
+        101 => "changed",
+        102 => "unknown",
+        103 => "stored",
+        104 => "passed",
+        2_000..=3_022 => "hit",
+        4_000..=5_022 => "wanted",
+        _ => "another number",
+    };
+    let named = |name: &&&str| name.strip_prefix(kind) == Some(end);
+    ANSWERS
+        .iter()
+        .find(named)
+        .copied()
+        .unwrap_or("another number")
+}
+
+/// One call and the bytes that it is lent.
+struct Case {
+    table: Vec<u8>,
+    gauge: Vec<u8>,
+    lines: Vec<u8>,
+    call: Call,
+}
+
+/// Lends every length from 0 to past the good ones, in each of the calls. Gives how many calls.
+pub fn every_length(seed: u64, model: &Model) -> Result<u64, String> {
+    let mut lengths = Vec::new();
+    // Table, gauge, lines and picture bytes. All else fits K = 3, C = 1 and a picture.
+    lengths.extend((0..=200).chain(32_700..=32_833).map(|n| (n, 16, 64, 64)));
+    lengths.extend((0..=40).map(|n| (96, n, 64, 64)));
+    lengths.extend((0..=260).map(|n| (96, 16, n, 64)));
+    lengths.extend((0..=130).map(|n| (96, 16, 64, n)));
+    // C = K - 1, K and K + 1 at the largest K and past it.
+    for k in [1_023, 1_024, 1_025] {
+        lengths.extend((k - 2..=k + 1).map(|c| (32 * k, 16, 64 * c, 64)));
+    }
+    let mut calls = 0;
+    for (table, gauge, lines, picture) in lengths {
+        let mut random = Random::new(seed, 2, calls);
+        let picture = random.bytes(picture);
+        for call in [
+            Call::Read { key: 5, weight: 3 },
+            Call::Update { key: 5, weight: 3 },
+            Call::Fill { key: 5, picture },
+            Call::Age,
+        ] {
+            let lines = random.bytes(lines);
+            let zero = vec![0; table.max(gauge)];
+            let mut librarys = Memory::new(&zero[..table], &zero[..gauge], &lines, &mut random);
+            let mut models = librarys.clone();
+            let mut path = Path::new();
+            both(
+                model,
+                &mut models,
+                &mut librarys,
+                &call,
+                &mut random,
+                &mut path,
+            )
+            .map_err(|text| format!("seed {seed}, every length, call {calls}: {text}"))?;
+            calls += 1;
+        }
+    }
+    Ok(calls)
+}
+
+/// Runs the single calls. Stops at the first difference.
+pub fn run(seed: u64, calls: u64, model: &Model, counts: &mut Counts) -> Result<(), String> {
+    for number in 0..calls {
+        let mut random = Random::new(seed, 1, number);
+        let case = damaged(&mut random);
+        let mut librarys = Memory::new(&case.table, &case.gauge, &case.lines, &mut random);
+        let mut models = librarys.clone();
+        let mut path = Path::new();
+        let found = both(
+            model,
+            &mut models,
+            &mut librarys,
+            &case.call,
+            &mut random,
+            &mut path,
+        )
+        .map_err(|text| format!("seed {seed}, single call {number}: {text}"))?;
+        counts.add(answer_name(&case.call, found));
+        for step in path {
+            counts.add(step);
+        }
+        count_pairs(&case, found, counts);
+        count_inputs(&case, found, counts);
+    }
+    for name in ANSWERS.iter().chain(&STEPS).chain(&INPUTS) {
+        if counts.of(name) == 0 {
+            return Err(format!(
+                "seed {seed}, {calls} single calls: '{name}' never came"
+            ));
+        }
+    }
+    Ok(())
+}
+
+/// Counts calls in which two causes hold, and accepted calls on doubled keys and lines.
+fn count_pairs(case: &Case, found: u64, counts: &mut Counts) {
+    let wrong_2 = match &case.call {
+        Call::Read { weight, .. } | Call::Update { weight, .. } => wrong_weight(*weight),
+        _ => false,
+    };
+    let wrong_4 = match &case.call {
+        Call::Fill { picture, .. } => wrong_picture(picture),
+        _ => false,
+    };
+    if !wrong_sizes(&case.table, &case.gauge, &case.lines).is_empty() {
+        if wrong_2 {
+            counts.add("1 and 2");
+        }
+        if wrong_4 {
+            counts.add("1 and 4");
+        }
+        return;
+    }
+    let records = records_of(&case.table);
+    if !not_in_order(&case.table, &case.gauge, &case.lines).is_empty() {
+        if wrong_2 {
+            counts.add("2 and 3");
+        }
+        if wrong_4 {
+            counts.add("4 and 3");
+        }
+        if let (Call::Fill { key, .. }, false) = (&case.call, wrong_4) {
+            let own = records.iter().find(|r| r.key == *key && !r.is_free());
+            match own {
+                Some(record) if record.is_filled() => counts.add("3 and 6"),
+                Some(record) if record.line().is_some() => {}
+                _ => counts.add("3 and 5"),
+            }
+        }
+        return;
+    }
+    if found >= 100 {
+        let tracked: Vec<&Record> = records.iter().filter(|r| !r.is_free()).collect();
+        if doubled(tracked.iter().map(|r| r.key).collect()) {
+            counts.add("doubled key");
+        }
+        if doubled(tracked.iter().filter_map(|r| r.line()).collect()) {
+            counts.add("doubled line");
+        }
+    }
+}
+
+/// Counts the special inputs.
+fn count_inputs(case: &Case, found: u64, counts: &mut Counts) {
+    let accepted = found >= 100;
+    let mut count = |name: &'static str, holds: bool| {
+        if holds {
+            counts.add(name);
+        }
+    };
+    let (table, gauge, lines) = (case.table.len(), case.gauge.len(), case.lines.len());
+    count("K = 1", accepted && table == 32);
+    count("K = 1,023", accepted && table == 32 * 1_023);
+    count("K = 1,024", accepted && table == 32 * 1_024);
+    count("K = 1,025", found == 1 && table == 32 * 1_025);
+    count("table of 0 bytes", found == 1 && table == 0);
+    count("table of 32,800 bytes", found == 1 && table == 32_800);
+    count("lines of 63 bytes", found == 1 && lines == 63);
+    count("gauge of 0 bytes", found == 1 && gauge == 0);
+    count("gauge of 15 bytes", found == 1 && gauge == 15);
+    count("gauge of 17 bytes", found == 1 && gauge == 17);
+    match &case.call {
+        Call::Read { key, weight } | Call::Update { key, weight } => {
+            count("key 0", accepted && *key == 0);
+            count("key 2^64 - 1", accepted && *key == u64::MAX);
+            count("weight 0", found == 2 && *weight == 0);
+            count("weight 1", accepted && *weight == 1);
+            count("weight 65,535", accepted && *weight == 65_535);
+            count("weight 65,536", found == 2 && *weight == 65_536);
+            count("weight 2^64 - 1", found == 2 && *weight == u64::MAX);
+        }
+        Call::Fill { key, picture } => {
+            count("key 0", accepted && *key == 0);
+            count("key 2^64 - 1", accepted && *key == u64::MAX);
+            count("picture of 0 bytes", found == 4 && picture.is_empty());
+            count("picture of 63 bytes", found == 4 && picture.len() == 63);
+            count("picture of 64 bytes", accepted && picture.len() == 64);
+            count("picture of 65 bytes", found == 4 && picture.len() == 65);
+        }
+        Call::Age => {}
+    }
+    if found == 3 || accepted {
+        let records = records_of(&case.table);
+        let (total, _) = gauge_of(&case.gauge);
+        let most = 1 + 2 * (lines / LINE_BYTES) as u64;
+        count("total L - 1", accepted && total == L - 1);
+        count("total L", accepted && total == L);
+        count("total L + 1", found == 3 && total == L + 1);
+        count("total 2^64 - 1", found == 3 && total == u64::MAX);
+        let any = |holds: fn(&Record, u64) -> bool| records.iter().any(|r| holds(r, most));
+        count(
+            "a slack 2^64 - 1",
+            accepted && any(|r, _| r.slack == u64::MAX),
+        );
+        count(
+            "a state 1 + 2 C",
+            accepted && any(|r, most| r.state == most),
+        );
+        count(
+            "a state 2 + 2 C",
+            found == 3 && any(|r, most| r.state == most + 1),
+        );
+        count(
+            "a state 2^64 - 1",
+            found == 3 && any(|r, _| r.state == u64::MAX),
+        );
+    }
+}
+
+fn doubled(mut numbers: Vec<u64>) -> bool {
+    numbers.sort_unstable();
+    numbers.windows(2).any(|pair| pair[0] == pair[1])
+}
+
+/// A call on a table that is near good, random or fresh, with lengths that may be wrong.
+fn damaged(random: &mut Random) -> Case {
+    let k = match random.below(100) {
+        0..=49 => random.between(1, 6),
+        50..=84 => random.between(7, 40),
+        85..=92 => random.between(41, 200),
+        93..=94 => 1_023,
+        95..=97 => 1_024,
+        98 => 1_025,
+        _ => 1,
+    } as usize;
+    let c = match random.below(100) {
+        0..=9 => 0,
+        10..=24 => k - 1,
+        25..=26 => k,
+        27 => k + random.place(3),
+        _ => random.place(k),
+    };
+
+    let total = good_total(random);
+    let ceiling = match random.below(4) {
+        0 => 0,
+        1 => total,
+        2 => random.between(0, total.min(9)),
+        _ => random.between(0, total),
+    };
+    let keys = some_keys(k, random);
+    let mut records = good_records(k, c, total, ceiling, &keys, random);
+    let mut gauge = vec![0; 16];
+    put_gauge(&mut gauge, total, ceiling);
+    let call = some_call(&records, ceiling, &keys, random);
+
+    if random.chance(40) {
+        for _ in 0..random.between(1, 2) {
+            damage(&mut records, &mut gauge, c, total, random);
+        }
+    }
+    let mut table = vec![0; RECORD_BYTES * k];
+    put_records(&mut table, &records);
+    match random.below(100) {
+        // Any bytes at all.
+        0..=1 => table = random.bytes(table.len()),
+        2 => gauge = random.bytes(16),
+        // One bit of the table or gauge changed.
+        3..=5 => flip(&mut table, random),
+        6 => flip(&mut gauge, random),
+        // Fresh.
+        7..=9 => {
+            table.fill(0);
+            gauge.fill(0);
+        }
+        _ => {}
+    }
+    let mut lines = random.bytes(LINE_BYTES * c);
+
+    if random.chance(9) {
+        for _ in 0..random.between(1, 2) {
+            wrong_length(&mut table, &mut gauge, &mut lines, random);
+        }
+    }
+    Case {
+        table,
+        gauge,
+        lines,
+        call,
+    }
+}
+
+fn flip(bytes: &mut [u8], random: &mut Random) {
+    let at = random.place(bytes.len());
+    bytes[at] ^= 1 << random.below(8);
+}
+
+/// A total in order, often where a read must age or just not.
+fn good_total(random: &mut Random) -> u64 {
+    match random.below(20) {
+        0 => 0,
+        1 => 1,
+        2..=4 => random.between(0, 20),
+        5 => L,
+        6 => L - 1,
+        7 => L - random.between(0, 9),
+        8 => random.pick(&[L - MOST_WEIGHT - 1, L - MOST_WEIGHT, L - MOST_WEIGHT + 1]),
+        9 => random.pick(&[L / 2, L / 2 + 1]),
+        10..=12 => random.between(0, 70_000),
+        _ => random.between(0, L),
+    }
+}
+
+/// The keys of a case: more than the table holds, with 0, 2^64 - 1 and keys that share 32 bits.
+fn some_keys(k: usize, random: &mut Random) -> Vec<u64> {
+    let mut keys = vec![0, u64::MAX];
+    let base = random.next();
+    for number in 0..(k as u64 + k as u64 / 2 + 2) {
+        keys.push(match random.below(4) {
+            0 => number,
+            1 => base ^ (number << 32),
+            2 => base ^ number,
+            _ => random.next(),
+        });
+    }
+    // The first keys are used first, so the two ends come to any place.
+    for place in (1..keys.len()).rev() {
+        keys.swap(place, random.place(place + 1));
+    }
+    keys
+}
+
+/// Records in order, in part with doubled keys and lines.
+fn good_records(
+    k: usize,
+    c: usize,
+    total: u64,
+    ceiling: u64,
+    keys: &[u64],
+    random: &mut Random,
+) -> Vec<Record> {
+    let free = match random.below(4) {
+        0..=1 => 0,
+        2 => random.place(k + 1),
+        _ => random.place(k.min(3) + 1),
+    };
+    let on_lines = match random.below(4) {
+        0 => random.place(c + 1),
+        1 => c.saturating_sub(1),
+        _ => c,
+    }
+    .min(k - free);
+    let double_keys = random.chance(15);
+    let double_lines = random.chance(10);
+    // Few heats in a table give many equals.
+    let mut few = vec![ceiling, random.between(0, total.min(9))];
+    let low = random.between(0, total);
+    for _ in 0..random.between(1, 4) {
+        few.push(random.between(low, total.min(low + 9)));
+    }
+    let many_equals = random.chance(50);
+
+    let mut lines: Vec<u64> = (0..c as u64).collect();
+    for place in (1..lines.len()).rev() {
+        lines.swap(place, random.place(place + 1));
+    }
+    let mut records = Vec::with_capacity(k);
+    for number in 0..k {
+        if number < free {
+            records.push(Record {
+                key: 0,
+                heat: 0,
+                slack: 0,
+                state: 0,
+            });
+            continue;
+        }
+        let state = if number - free < on_lines {
+            let line = if double_lines {
+                random.pick(&lines)
+            } else {
+                lines[number - free]
+            };
+            if random.chance(50) {
+                empty_on(line)
+            } else {
+                filled_on(line)
+            }
+        } else {
+            TRACKED
+        };
+        records.push(Record {
+            key: if double_keys {
+                random.pick(keys)
+            } else {
+                keys[number]
+            },
+            heat: match (many_equals, random.below(8)) {
+                (true, _) => random.pick(&few),
+                (false, 0) => total,
+                (false, 1) => 0,
+                _ => random.between(0, total),
+            },
+            slack: some_slack(random),
+            state,
+        });
+    }
+    // Often the hottest are on the lines, as after a list of calls.
+    if random.chance(60) {
+        let mut heats: Vec<u64> = records[free..].iter().map(|record| record.heat).collect();
+        heats.sort_unstable_by(|a, b| b.cmp(a));
+        for (record, heat) in records[free..].iter_mut().zip(heats) {
+            record.heat = heat;
+        }
+    }
+    for place in (1..records.len()).rev() {
+        records.swap(place, random.place(place + 1));
+    }
+    records
+}
+
+fn some_slack(random: &mut Random) -> u64 {
+    match random.below(8) {
+        0 => 0,
+        1 => 1,
+        2 => u64::MAX,
+        3 => random.pick(&[u64::MAX - 1, 1 << 63, (1 << 63) - 1, (1 << 32) - 1]),
+        4..=5 => random.between(0, 9),
+        _ => random.next(),
+    }
+}
+
+/// A call that fits the records: of a key in the table or not, with a weight that often makes two
+/// heats equal or nearly so.
+fn some_call(records: &[Record], ceiling: u64, keys: &[u64], random: &mut Random) -> Call {
+    let key = match random.below(20) {
+        0 => 0,
+        1 => u64::MAX,
+        2 => random.next(),
+        3..=6 => random.pick(keys),
+        _ => random.pick(records).key,
+    };
+    let own = records.iter().find(|r| r.key == key && !r.is_free());
+    match random.below(20) {
+        0..=8 => {
+            // The heat to reach, and the heat that the weight is added to.
+            let aim = heats_on_lines(records).min();
+            let coldest = heats_without_line(records).min();
+            let from = own.map_or(ceiling.max(coldest.unwrap_or(0)), |r| r.heat);
+            let weight = match aim {
+                Some(aim) if aim > from && random.chance(40) => near(aim - from, random),
+                _ => some_weight(random),
+            };
+            Call::Read { key, weight }
+        }
+        9..=13 => {
+            let aim = heats_without_line(records).max();
+            let weight = match (aim, own.map(|r| r.heat)) {
+                (Some(aim), Some(from)) if from > aim && random.chance(40) => {
+                    near(from - aim, random)
+                }
+                (_, Some(from)) if random.chance(20) => near(from, random),
+                _ => some_weight(random),
+            };
+            Call::Update { key, weight }
+        }
+        14..=18 => {
+            let on_line: Vec<u64> = records
+                .iter()
+                .filter(|r| r.line().is_some())
+                .map(|r| r.key)
+                .collect();
+            let key = if !on_line.is_empty() && random.chance(60) {
+                random.pick(&on_line)
+            } else {
+                key
+            };
+            let len = match random.below(20) {
+                0 => random.pick(&[0, 63, 65]),
+                1 => random.pick(&[1, 32, 127, 128]),
+                _ => 64,
+            };
+            Call::Fill {
+                key,
+                picture: random.bytes(len),
+            }
+        }
+        _ => Call::Age,
+    }
+}
+
+fn heats_on_lines(records: &[Record]) -> impl Iterator<Item = u64> + '_ {
+    let on_lines = records.iter().filter(|r| r.line().is_some());
+    on_lines.map(|r| r.heat)
+}
+
+fn heats_without_line(records: &[Record]) -> impl Iterator<Item = u64> + '_ {
+    let without = records.iter().filter(|r| r.line().is_none());
+    without.map(|r| r.heat)
+}
+
+/// A weight at, just below or just above a number.
+fn near(number: u64, random: &mut Random) -> u64 {
+    number.saturating_add(random.below(3)).saturating_sub(1)
+}
+
+fn some_weight(random: &mut Random) -> u64 {
+    match random.below(40) {
+        0 => 0,
+        1 => MOST_WEIGHT + 1,
+        2 => u64::MAX,
+        3 => random.pick(&[1 << 32, (1 << 32) + 1, (1 << 16) + 1, 1 << 63, u64::MAX - 1]),
+        4..=6 => MOST_WEIGHT,
+        7 => MOST_WEIGHT - 1,
+        8..=12 => random.between(1, MOST_WEIGHT),
+        _ => random.between(1, 9),
+    }
+}
+
+/// One damage to the numbers. Some of them leave the table in order.
+fn damage(records: &mut [Record], gauge: &mut [u8], c: usize, total: u64, random: &mut Random) {
+    let c = c as u64;
+    let place = match random.below(4) {
+        0 => 0,
+        1 => records.len() - 1,
+        _ => random.place(records.len()),
+    };
+    let other = random.place(records.len());
+    match random.below(13) {
+        0 => put_number(
+            gauge,
+            0,
+            random.pick(&[L + 1, L + 2, u64::MAX, total + (1 << 32)]),
+        ),
+        1 => put_number(gauge, 0, random.pick(&[L - 1, L, total / 2, 0])),
+        2 => put_number(
+            gauge,
+            8,
+            random.pick(&[total + 1, u64::MAX, total | (1 << 32)]),
+        ),
+        3 => records[place].heat = random.pick(&[total + 1, u64::MAX, total | (1 << 32)]),
+        // States at the bound and past it.
+        4 => records[place].state = random.pick(&[1 + 2 * c, 2 * c, 2 * c + 1]),
+        5 => {
+            let past = [
+                2 + 2 * c,
+                3 + 2 * c,
+                1 << 32,
+                (1 << 32) + 1,
+                1 << 63,
+                u64::MAX,
+            ];
+            records[place].state = random.pick(&past);
+        }
+        6 => records[place].slack = random.pick(&[u64::MAX, u64::MAX - 1, 1 << 63]),
+        7 => records[place].state = 0,
+        // A free record with one number that is not zero.
+        8 => {
+            let mut numbers = [0; 3];
+            numbers[random.place(3)] = random.pick(&[1, 1 << 32, 1 << 63, 255, u64::MAX]);
+            records[place] = Record {
+                key: numbers[0],
+                heat: numbers[1].min(total),
+                slack: numbers[2],
+                state: 0,
+            };
+        }
+        // More records on lines than there are lines, or as many.
+        9 => {
+            let most = c + random.below(2);
+            let mut on_lines = records.iter().filter(|r| r.line().is_some()).count() as u64;
+            for record in records.iter_mut() {
+                if c > 0 && on_lines < most && record.state == TRACKED {
+                    record.state = empty_on(random.below(c)) + random.below(2);
+                    on_lines += 1;
+                }
+            }
+        }
+        10 => records[place].key = records[other].key,
+        11 => {
+            if records[place].line().is_some() && records[other].line().is_some() {
+                records[place].state = records[other].state;
+            }
+        }
+        _ => records[place].key = random.pick(&[0, u64::MAX]),
+    }
+}
+
+/// Gives the table, the gauge or the lines a wrong length.
+fn wrong_length(
+    table: &mut Vec<u8>,
+    gauge: &mut Vec<u8>,
+    lines: &mut Vec<u8>,
+    random: &mut Random,
+) {
+    let (whole_table, whole_lines) = (table.len(), lines.len());
+    match random.below(10) {
+        0 => table.clear(),
+        1 => table.resize(32_800, random.next() as u8),
+        2 => table.resize(whole_table + 1 + random.place(RECORD_BYTES - 1), 0),
+        3 => table.truncate(whole_table.saturating_sub(1 + random.place(RECORD_BYTES - 1))),
+        4 => gauge.resize(random.pick(&[15, 17]), 0),
+        5 => gauge.resize(random.pick(&[0, 1, 8, 24, 32]), 0),
+        6 => lines.resize(63, 0),
+        7 => lines.resize(whole_lines + 1 + random.place(LINE_BYTES - 1), 0),
+        8 => lines.resize(LINE_BYTES * (whole_table / RECORD_BYTES), 0),
+        _ => lines.resize(LINE_BYTES * (whole_table / RECORD_BYTES + 1) + 1, 0),
+    }
+}

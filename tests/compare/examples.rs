@@ -1,0 +1,349 @@
+//! Group (d): the examples of document 01 that concern the four calls. Each test has the
+//! document's sentence. The two examples with journals concern the program `replay` only.
+
+use crate::harness::{both, call_text, Memory};
+use crate::model::{
+    gauge_of, put_gauge, put_records, records_of, Call, Model, Path, Record, Replay,
+};
+use crate::random::Random;
+
+/// A test's name, the document's sentence, and the test.
+pub type Example = (
+    &'static str,
+    &'static str,
+    fn(&Model, u64) -> Result<(), String>,
+);
+
+pub const EXAMPLES: [Example; 10] = [
+    (
+        "thirteen rows",
+        "Journal: read 5 w 3; fill 5; ... read 9 w 1. Output, whole: 1 wanted 3 0 ... 13 wanted 8 1",
+        thirteen_rows,
+    ),
+    (
+        "edge: most records",
+        "32,768 table bytes pass; 32,800 give 1.",
+        most_records,
+    ),
+    (
+        "edge: one record",
+        "K = 1 with no lines passes; with one line, 1.",
+        one_record,
+    ),
+    (
+        "edge: most weight",
+        "Weight 65,535 passes, 65,536 gives 2.",
+        most_weight,
+    ),
+    (
+        "edge: total at L",
+        "Total 4,294,967,294 and a read of 1: no aging; one more such read ages first and leaves \
+         2,147,483,648.",
+        total_at_the_limit,
+    ),
+    (
+        "edge: most state",
+        "With C = 1, state 3 is in order and 4 is not.",
+        most_state,
+    ),
+    (
+        "slip: equal heat",
+        "Admitting on equal heat (row 4).",
+        equal_heat,
+    ),
+    (
+        "slip: slack",
+        "Halving slack downward: were an aging to follow row 12, class 9 would go from heat 2, \
+         true heat 1, slack 1 to heat 1, true heat 0, so slack must stay 1.",
+        slack_rounded_up,
+    ),
+    (
+        "slip: newcomer",
+        "Giving a newcomer the victim's heat where updates had cooled it below the ceiling.",
+        newcomer_over_cooled_victim,
+    ),
+    (
+        "slip: cooled class",
+        "Leaving a cooled class on its line (row 8).",
+        cooled_class,
+    ),
+];
+
+/// The library's memory, the model's and, for a list from fresh, the replay.
+struct Desk<'a> {
+    model: &'a Model,
+    librarys: Memory,
+    models: Memory,
+    replay: Option<Replay>,
+    random: Random,
+}
+
+impl<'a> Desk<'a> {
+    fn fresh(model: &'a Model, seed: u64, k: usize, c: usize) -> Desk<'a> {
+        let mut random = Random::new(seed, 5, k as u64);
+        let librarys = Memory::fresh(k, c, &mut random);
+        Desk {
+            model,
+            models: librarys.clone(),
+            librarys,
+            replay: Some(Replay::default()),
+            random,
+        }
+    }
+
+    /// K = 3, C = 1 and these numbers.
+    fn with(model: &'a Model, seed: u64, gauge: (u64, u64), records: [Record; 3]) -> Desk<'a> {
+        let mut desk = Desk::fresh(model, seed, 3, 1);
+        put_records(desk.librarys.table.bytes_mut(), &records);
+        put_gauge(desk.librarys.gauge.bytes_mut(), gauge.0, gauge.1);
+        desk.models = desk.librarys.clone();
+        desk.replay = None;
+        desk
+    }
+
+    /// Makes the call on both; the number must be the one given.
+    fn gives(&mut self, number: u64, call: Call) -> Result<(), String> {
+        let found = both(
+            self.model,
+            &mut self.models,
+            &mut self.librarys,
+            &call,
+            &mut self.random,
+            &mut Path::new(),
+        )?;
+        if found != number {
+            let text = call_text(&call);
+            return Err(format!("{text} returned {found}, and {number} is due"));
+        }
+        if let Some(replay) = &mut self.replay {
+            replay.feed(&call, found < 100);
+            let memory = &self.librarys;
+            replay.compare(
+                memory.table.bytes(),
+                memory.gauge.bytes(),
+                memory.lines.bytes(),
+            )?;
+        }
+        Ok(())
+    }
+
+    /// The gauge must be as given.
+    fn gauge(&self, total: u64, ceiling: u64) -> Result<(), String> {
+        let found = gauge_of(self.librarys.gauge.bytes());
+        if found != (total, ceiling) {
+            return Err(format!(
+                "gauge is {found:?}, and {:?} is due",
+                (total, ceiling)
+            ));
+        }
+        Ok(())
+    }
+
+    /// The record at a place must be as given.
+    fn record(&self, place: usize, due: Record) -> Result<(), String> {
+        let found = records_of(self.librarys.table.bytes())[place];
+        if found != due {
+            return Err(format!("record {place} is {found:?}, and {due:?} is due"));
+        }
+        Ok(())
+    }
+
+    /// The true heat of a key must be as given.
+    fn true_heat(&self, key: u64, due: u64) -> Result<(), String> {
+        let found = self
+            .replay
+            .as_ref()
+            .and_then(|replay| replay.keys.get(&key))
+            .map_or(0, |kept| kept.heat);
+        if found != due {
+            return Err(format!("true heat of {key} is {found}, and {due} is due"));
+        }
+        Ok(())
+    }
+
+    /// The first rows of the document's journal.
+    fn rows(&mut self, count: usize) -> Result<(), String> {
+        for (row, (call, number, total, ceiling)) in rows().into_iter().enumerate().take(count) {
+            self.gives(number, call)
+                .and_then(|()| self.gauge(total, ceiling))
+                .map_err(|text| format!("row {}: {text}", row + 1))?;
+        }
+        Ok(())
+    }
+}
+
+fn read(key: u64, weight: u64) -> Call {
+    Call::Read { key, weight }
+}
+
+fn update(key: u64, weight: u64) -> Call {
+    Call::Update { key, weight }
+}
+
+fn fill(key: u64) -> Call {
+    let picture = (0..64).map(|byte| byte + key as u8).collect();
+    Call::Fill { key, picture }
+}
+
+fn record(key: u64, heat: u64, slack: u64, state: u64) -> Record {
+    Record {
+        key,
+        heat,
+        slack,
+        state,
+    }
+}
+
+/// The document's journal, with the number of each answer, the total and the ceiling.
+fn rows() -> [(Call, u64, u64, u64); 13] {
+    [
+        (read(5, 3), 4_000, 3, 0),
+        (fill(5), 103, 3, 0),
+        (read(5, 1), 2_000, 4, 0),
+        (read(7, 4), 104, 8, 0),
+        (read(7, 1), 4_000, 9, 0),
+        (read(9, 2), 104, 11, 0),
+        (read(11, 1), 104, 12, 2),
+        (update(7, 3), 101, 12, 2),
+        (update(9, 1), 102, 12, 2),
+        (fill(7), 5, 12, 2),
+        (Call::Age, 100, 6, 1),
+        (read(9, 1), 104, 7, 1),
+        (read(9, 1), 4_000, 8, 1),
+    ]
+}
+
+fn thirteen_rows(model: &Model, seed: u64) -> Result<(), String> {
+    let mut desk = Desk::fresh(model, seed, 3, 1);
+    desk.rows(13)?;
+    desk.record(0, record(5, 2, 0, 1))?;
+    desk.record(1, record(9, 3, 1, 2))?;
+    desk.record(2, record(11, 1, 1, 1))
+}
+
+fn most_records(model: &Model, seed: u64) -> Result<(), String> {
+    for c in [0, 1, 1_023] {
+        let first = if c == 0 { 104 } else { 4_000 };
+        let filled = if c == 0 { 5 } else { 103 };
+        let mut desk = Desk::fresh(model, seed, 1_024, c);
+        desk.gives(first, read(5, 3))?;
+        desk.gives(filled, fill(5))?;
+        desk.gives(101, update(5, 1))?;
+        desk.gives(100, Call::Age)?;
+
+        let mut desk = Desk::fresh(model, seed, 1_025, c);
+        for call in [read(5, 3), fill(5), update(5, 1), Call::Age] {
+            desk.gives(1, call)?;
+        }
+    }
+    Ok(())
+}
+
+fn one_record(model: &Model, seed: u64) -> Result<(), String> {
+    let mut desk = Desk::fresh(model, seed, 1, 0);
+    desk.gives(104, read(5, 3))?;
+    desk.gives(5, fill(5))?;
+    desk.gives(101, update(5, 1))?;
+    desk.gives(100, Call::Age)?;
+
+    let mut desk = Desk::fresh(model, seed, 1, 1);
+    for call in [read(5, 3), fill(5), update(5, 1), Call::Age] {
+        desk.gives(1, call)?;
+    }
+    Ok(())
+}
+
+fn most_weight(model: &Model, seed: u64) -> Result<(), String> {
+    let mut desk = Desk::fresh(model, seed, 3, 1);
+    desk.gives(4_000, read(5, 65_535))?;
+    desk.gives(2, read(5, 65_536))?;
+    desk.gauge(65_535, 0)?;
+    desk.gives(2, update(5, 65_536))?;
+    desk.record(0, record(5, 65_535, 0, 2))?;
+    desk.gives(101, update(5, 65_535))?;
+    desk.record(0, record(5, 0, 0, 2))
+}
+
+fn total_at_the_limit(model: &Model, seed: u64) -> Result<(), String> {
+    let records = [record(5, 9, 3, 3), record(7, 4, 1, 1), record(0, 0, 0, 0)];
+    let mut desk = Desk::with(model, seed, (4_294_967_294, 5), records);
+    // "a read of 1: no aging"
+    desk.gives(2_000, read(5, 1))?;
+    desk.gauge(4_294_967_295, 5)?;
+    desk.record(0, record(5, 10, 3, 3))?;
+    desk.record(1, record(7, 4, 1, 1))?;
+    // "one more such read ages first and leaves 2,147,483,648"
+    desk.gives(2_000, read(5, 1))?;
+    desk.gauge(2_147_483_648, 2)?;
+    desk.record(0, record(5, 6, 2, 3))?;
+    desk.record(1, record(7, 2, 1, 1))
+}
+
+fn most_state(model: &Model, seed: u64) -> Result<(), String> {
+    let calls = [
+        (read(5, 1), 2_000),
+        (update(5, 1), 101),
+        (fill(5), 6),
+        (Call::Age, 100),
+    ];
+    for (call, number) in calls {
+        for (state, number) in [(3, number), (4, 3)] {
+            for place in 0..3 {
+                let mut records = [record(0, 0, 0, 0); 3];
+                records[place] = record(5, 4, 0, state);
+                let mut desk = Desk::with(model, seed, (4, 0), records);
+                desk.gives(number, call.clone())?;
+            }
+        }
+    }
+    Ok(())
+}
+
+fn equal_heat(model: &Model, seed: u64) -> Result<(), String> {
+    let mut desk = Desk::fresh(model, seed, 3, 1);
+    desk.rows(3)?;
+    desk.record(0, record(5, 4, 0, 3))?;
+    // Class 7 comes to heat 4 as well; class 5 stays on its line.
+    desk.gives(104, read(7, 4))?;
+    desk.record(0, record(5, 4, 0, 3))?;
+    desk.record(1, record(7, 4, 0, 1))?;
+    desk.gives(2_000, read(5, 1))
+}
+
+fn slack_rounded_up(model: &Model, seed: u64) -> Result<(), String> {
+    let mut desk = Desk::fresh(model, seed, 3, 1);
+    desk.rows(12)?;
+    desk.record(1, record(9, 2, 1, 1))?;
+    desk.true_heat(9, 1)?;
+    desk.gives(100, Call::Age)?;
+    desk.record(1, record(9, 1, 1, 1))?;
+    desk.true_heat(9, 0)
+}
+
+fn newcomer_over_cooled_victim(model: &Model, seed: u64) -> Result<(), String> {
+    let mut desk = Desk::fresh(model, seed, 1, 0);
+    desk.gives(104, read(1, 5))?;
+    // Class 2 takes the place of class 1, whose heat becomes the ceiling.
+    desk.gives(104, read(2, 1))?;
+    desk.record(0, record(2, 6, 5, 1))?;
+    desk.gauge(6, 5)?;
+    // Updates cool class 2 below the ceiling.
+    desk.gives(101, update(2, 4))?;
+    desk.record(0, record(2, 2, 5, 1))?;
+    // Class 1 comes back. Its true heat is 6; with the victim's heat it would have 3.
+    desk.gives(104, read(1, 1))?;
+    desk.record(0, record(1, 6, 5, 1))?;
+    desk.true_heat(1, 6)?;
+    desk.gauge(7, 5)
+}
+
+fn cooled_class(model: &Model, seed: u64) -> Result<(), String> {
+    let mut desk = Desk::fresh(model, seed, 3, 1);
+    desk.rows(7)?;
+    desk.record(0, record(5, 4, 0, 1))?;
+    desk.record(1, record(7, 5, 0, 2))?;
+    // Class 7 falls to heat 2 and class 5, with heat 4, takes the line, empty.
+    desk.gives(101, update(7, 3))?;
+    desk.record(0, record(5, 4, 0, 2))?;
+    desk.record(1, record(7, 2, 0, 1))
+}

@@ -1,0 +1,316 @@
+//! Lent memory with guard bytes, the calls into libcot.a, and their comparison with the model.
+
+use crate::model::{gauge_of, records_of, Call, Model, Path};
+use crate::model::{GAUGE_BYTES, RECORD_BYTES};
+use crate::random::Random;
+
+#[link(name = "cot", kind = "static")]
+extern "C" {
+    fn cot_read(
+        table: *mut u8,
+        table_len: usize,
+        gauge: *mut u8,
+        gauge_len: usize,
+        lines: *const u8,
+        lines_len: usize,
+        key: u64,
+        weight: u64,
+    ) -> u64;
+    fn cot_update(
+        table: *mut u8,
+        table_len: usize,
+        gauge: *mut u8,
+        gauge_len: usize,
+        lines: *const u8,
+        lines_len: usize,
+        key: u64,
+        weight: u64,
+    ) -> u64;
+    fn cot_fill(
+        table: *mut u8,
+        table_len: usize,
+        gauge: *const u8,
+        gauge_len: usize,
+        lines: *mut u8,
+        lines_len: usize,
+        key: u64,
+        picture: *const u8,
+        picture_len: usize,
+    ) -> u64;
+    fn cot_age(
+        table: *mut u8,
+        table_len: usize,
+        gauge: *mut u8,
+        gauge_len: usize,
+        lines: *const u8,
+        lines_len: usize,
+    ) -> u64;
+}
+
+/// Guard bytes before (at the least) and after each lent buffer.
+const GUARD: usize = 64;
+
+/// A lent buffer between guard bytes. Its first byte may have any alignment.
+#[derive(Clone)]
+pub struct Lent {
+    all: Vec<u8>,
+    start: usize,
+    len: usize,
+    /// The address that is lent while the length is 0, if not one in `all`.
+    elsewhere: Option<usize>,
+}
+
+impl Lent {
+    pub fn new(bytes: &[u8], random: &mut Random) -> Lent {
+        let start = GUARD + random.place(16);
+        let mut all = match random.below(4) {
+            0 => vec![0x00; start + bytes.len() + GUARD],
+            1 => vec![0xff; start + bytes.len() + GUARD],
+            _ => {
+                let mut all = random.bytes(start);
+                all.resize(start + bytes.len(), 0);
+                all.extend_from_slice(&random.bytes(GUARD));
+                all
+            }
+        };
+        all[start..start + bytes.len()].copy_from_slice(bytes);
+        let elsewhere = random.pick(&[None, Some(0), Some(1), Some(usize::MAX)]);
+        Lent {
+            all,
+            start,
+            len: bytes.len(),
+            elsewhere,
+        }
+    }
+
+    pub fn bytes(&self) -> &[u8] {
+        &self.all[self.start..self.start + self.len]
+    }
+
+    pub fn bytes_mut(&mut self) -> &mut [u8] {
+        &mut self.all[self.start..self.start + self.len]
+    }
+
+    /// The same memory with another length; what is cut off then lies among the guard bytes.
+    pub fn set_len(&mut self, len: usize) {
+        assert!(self.start + len <= self.all.len());
+        self.len = len;
+    }
+
+    fn pointer(&self) -> *const u8 {
+        match self.elsewhere {
+            Some(address) if self.len == 0 => address as *const u8,
+            _ => self.all[self.start..].as_ptr(),
+        }
+    }
+
+    fn pointer_mut(&mut self) -> *mut u8 {
+        match self.elsewhere {
+            Some(address) if self.len == 0 => address as *mut u8,
+            _ => self.all[self.start..].as_mut_ptr(),
+        }
+    }
+}
+
+/// What one call is lent besides a picture.
+#[derive(Clone)]
+pub struct Memory {
+    pub table: Lent,
+    pub gauge: Lent,
+    pub lines: Lent,
+}
+
+impl Memory {
+    pub fn new(table: &[u8], gauge: &[u8], lines: &[u8], random: &mut Random) -> Memory {
+        Memory {
+            table: Lent::new(table, random),
+            gauge: Lent::new(gauge, random),
+            lines: Lent::new(lines, random),
+        }
+    }
+
+    /// "Fresh: every table byte and the gauge are zero. The lines keep their bytes."
+    pub fn fresh(k: usize, c: usize, random: &mut Random) -> Memory {
+        let lines = random.bytes(64 * c);
+        Memory::new(&vec![0; 32 * k], &[0; 16], &lines, random)
+    }
+}
+
+/// Makes the call on the library.
+pub fn library(memory: &mut Memory, call: &Call, picture: Option<&Lent>) -> u64 {
+    let (table_len, gauge_len, lines_len) = (memory.table.len, memory.gauge.len, memory.lines.len);
+    let table = memory.table.pointer_mut();
+    // SAFETY: each pointer is good for its length, or the length is 0. No two buffers overlap.
+    unsafe {
+        match call {
+            Call::Read { key, weight } => cot_read(
+                table,
+                table_len,
+                memory.gauge.pointer_mut(),
+                gauge_len,
+                memory.lines.pointer(),
+                lines_len,
+                *key,
+                *weight,
+            ),
+            Call::Update { key, weight } => cot_update(
+                table,
+                table_len,
+                memory.gauge.pointer_mut(),
+                gauge_len,
+                memory.lines.pointer(),
+                lines_len,
+                *key,
+                *weight,
+            ),
+            Call::Fill { key, .. } => {
+                let picture = picture.expect("a fill lends a picture");
+                cot_fill(
+                    table,
+                    table_len,
+                    memory.gauge.pointer(),
+                    gauge_len,
+                    memory.lines.pointer_mut(),
+                    lines_len,
+                    *key,
+                    picture.pointer(),
+                    picture.len,
+                )
+            }
+            Call::Age => cot_age(
+                table,
+                table_len,
+                memory.gauge.pointer_mut(),
+                gauge_len,
+                memory.lines.pointer(),
+                lines_len,
+            ),
+        }
+    }
+}
+
+/// Makes one call on the library's memory and on the model's, which start equal, and compares the
+/// returned number and every byte, lent and guard. Gives the number, or what differs.
+pub fn both(
+    model: &Model,
+    models: &mut Memory,
+    librarys: &mut Memory,
+    call: &Call,
+    random: &mut Random,
+    path: &mut Path,
+) -> Result<u64, String> {
+    let before = librarys.clone();
+    let picture = match call {
+        Call::Fill { picture, .. } => Some(Lent::new(picture, random)),
+        _ => None,
+    };
+    let picture_before = picture.clone();
+
+    let expected = model
+        .call(
+            models.table.bytes_mut(),
+            models.gauge.bytes_mut(),
+            models.lines.bytes_mut(),
+            call,
+            path,
+        )
+        .number();
+    let found = library(librarys, call, picture.as_ref());
+
+    let mut different = Vec::new();
+    if found != expected {
+        different.push(format!("returned {found}, the model {expected}"));
+    }
+    different.extend(difference("table", &models.table, &librarys.table));
+    different.extend(difference("gauge", &models.gauge, &librarys.gauge));
+    different.extend(difference("lines", &models.lines, &librarys.lines));
+    if let (Some(picture), Some(before)) = (&picture, &picture_before) {
+        different.extend(difference("picture", before, picture));
+    }
+    if different.is_empty() {
+        return Ok(found);
+    }
+    Err(format!(
+        "difference: {}\n{}",
+        different.join("; "),
+        describe(&before, call)
+    ))
+}
+
+/// The first byte that differs, and how many do.
+fn difference(name: &str, models: &Lent, librarys: &Lent) -> Option<String> {
+    if models.all == librarys.all {
+        return None;
+    }
+    let differs = |at: &usize| models.all[*at] != librarys.all[*at];
+    let count = (0..models.all.len()).filter(differs).count();
+    let at = (0..models.all.len()).find(differs)?;
+    let (start, end) = (models.start, models.start + models.len);
+    let place = if at < start {
+        format!("guard byte {} before the {name}", start - at)
+    } else if at >= end {
+        format!("guard byte {} after the {name}", at - end)
+    } else if name == "table" {
+        let at = at - start;
+        let field = ["key", "heat", "slack", "state"][at % RECORD_BYTES / 8];
+        format!("table byte {at} (record {}, {field})", at / RECORD_BYTES)
+    } else {
+        format!("{name} byte {}", at - start)
+    };
+    Some(format!(
+        "{place} is {:#04x}, the model's {:#04x} ({count} bytes differ)",
+        librarys.all[at], models.all[at]
+    ))
+}
+
+/// The call with its key, weight and picture.
+pub fn call_text(call: &Call) -> String {
+    match call {
+        Call::Read { key, weight } => format!("read of key {key}, weight {weight}"),
+        Call::Update { key, weight } => format!("update of key {key}, weight {weight}"),
+        Call::Fill { key, picture } => {
+            let bytes: String = picture.iter().map(|byte| format!("{byte:02x}")).collect();
+            format!(
+                "fill of key {key}, picture of {} bytes {bytes}",
+                picture.len()
+            )
+        }
+        Call::Age => "age".to_string(),
+    }
+}
+
+/// The call and the memory before it, in full for a small table.
+fn describe(before: &Memory, call: &Call) -> String {
+    const MOST: usize = 64;
+    let table = before.table.bytes();
+    let gauge = before.gauge.bytes();
+    let mut text = format!("  {}", call_text(call));
+    text += &format!(
+        "\n  table {} bytes, gauge {} bytes, lines {} bytes",
+        table.len(),
+        gauge.len(),
+        before.lines.len
+    );
+    for lent in [&before.table, &before.gauge, &before.lines] {
+        if lent.len == 0 {
+            text += &format!(", one of length 0 at {:?}", lent.pointer());
+        }
+    }
+    if gauge.len() == GAUGE_BYTES {
+        let (total, ceiling) = gauge_of(gauge);
+        text += &format!("\n  before: total {total}, ceiling {ceiling}");
+    } else {
+        text += &format!("\n  before: gauge {gauge:02x?}");
+    }
+    for (place, record) in records_of(table).iter().enumerate().take(MOST) {
+        text += &format!(
+            "\n  before: record {place}: key {} heat {} slack {} state {}",
+            record.key, record.heat, record.slack, record.state
+        );
+    }
+    let count = table.len() / RECORD_BYTES;
+    if count > MOST {
+        text += &format!("\n  and {} records more", count - MOST);
+    }
+    text
+}
