@@ -2,10 +2,10 @@
 -- was read changes no byte. Assumes nothing.
 use mathlib.Core.Path.{sym}
 use native.Mathlib.Omega.{arith}
+use borrow.Author.Needs.{needs}
 use Rattle.rules.proofs.Words.{IsBytes}
 use Rattle.rules.proofs.Places.{gauge-kept}
 use Rattle.cot.proofs.Exports.{wrong-gauge, right-gauge}
-use borrow.Author.Needs.{needs}
 use Rattle.cot.proofs.cot_fill.Statement.{statement}
 use Rattle.cot.proofs.cot_fill.Tie as tie
 

@@ -1,6 +1,6 @@
 -- `cot::cot_update` meets its contract: what `exported` says, from the call's own contract and the gauge read and put. Assumes nothing.
-use Rattle.cot.proofs.Exports.{wrong-gauge, right-gauge}
 use borrow.Author.Needs.{needs}
+use Rattle.cot.proofs.Exports.{wrong-gauge, right-gauge}
 use Rattle.cot.proofs.cot_update.Statement.{statement}
 use Rattle.cot.proofs.cot_update.Tie as tie
 

@@ -1,6 +1,6 @@
 -- `cot::gauge_at` meets its contract: both numbers lie inside, and together they are the gauge. Assumes nothing.
-use Rattle.rules.specs.Bytes.{gaugeAt}
 use borrow.Author.Needs.{needs}
+use Rattle.rules.specs.Bytes.{gaugeAt}
 use Rattle.cot.proofs.gauge_at.Statement.{statement}
 use Rattle.cot.proofs.gauge_at.Tie as tie
 

@@ -2,8 +2,8 @@
 -- Assumes nothing.
 use mathlib.Core.Path.{ap}
 use native.Mathlib.Omega.{arith}
-use Rattle.rules.specs.Answers.{numberOf}
 use borrow.Author.Needs.{needs}
+use Rattle.rules.specs.Answers.{numberOf}
 use Rattle.cot.proofs.number_of.Statement.{statement}
 use Rattle.cot.proofs.number_of.Tie as tie
 

@@ -1,7 +1,7 @@
 -- `cot::put_gauge` meets its contract: each put keeps the length, so the next is allowed, and together they are the definition's.
 -- Assumes nothing.
-use Rattle.rules.specs.Bytes.{putGauge}
 use borrow.Author.Needs.{needs}
+use Rattle.rules.specs.Bytes.{putGauge}
 use Rattle.cot.proofs.put_gauge.Statement.{statement}
 use Rattle.cot.proofs.put_gauge.Tie as tie
 
