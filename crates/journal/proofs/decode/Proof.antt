@@ -1,0 +1,31 @@
+-- `journal::decode` meets its contract: its three arms are the definition's, and a record that is read lies inside the journal.
+-- Assumes nothing.
+use borrow.Author.Tests.{le-leb, lt-leb, lt-ltb, le-ltb}
+use Rattle.rules.specs.Journal.{entryAt, decoded}
+use borrow.Author.Needs.{needs}
+use Rattle.journal.proofs.decode.Statement.{statement}
+use Rattle.journal.proofs.decode.Tie as tie
+
+returns : tie.Need-returns
+unfolding entryAt decoded
+returns c = rw (le-leb _ _ (c .if1 .taken))
+
+sub-if2 : tie.Need-sub-if2
+sub-if2 c = search needs
+
+returns-2 : tie.Need-returns-2
+unfolding entryAt decoded
+returns-2 c = rw (lt-leb _ _ (c .before .if1 .left), lt-ltb _ _ (c .if2 .taken))
+
+whole-entry-requires : tie.Need-whole-entry-requires
+whole-entry-requires c κs = search needs
+
+add-t3 : tie.Need-add-t3
+add-t3 c = search needs
+
+returns-3 : tie.Need-returns-3
+unfolding entryAt decoded
+returns-3 c = rw (lt-leb _ _ (c .before .before .if1 .left), le-ltb _ _ (c .before .if2 .left)) (cc)
+
+pub decode-spec : {M : Type 1} → statement M
+decode-spec = tie.close (tie.spec returns sub-if2 returns-2 whole-entry-requires add-t3 returns-3)

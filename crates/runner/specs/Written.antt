@@ -1,0 +1,19 @@
+-- Bytes written into a buffer from a place, and what a run is at its start.
+use Prim.Native.Nat.{ℕ, _+_}
+use mathlib.Core.Path.{_≡_}
+use mathlib.Core.List.{List, [], _++_}
+use lib.ListN.{length, take, drop}
+use Rattle.rules.specs.Table.{Memory}
+use Rattle.rules.specs.Journal.{Run}
+
+unfoldable pub written : List ℕ → ℕ → List ℕ → List ℕ
+written out at bytes = take at out ++ (bytes ++ drop (at + length bytes) out)
+
+-- what a writer gives: the place after its bytes, and the buffer with them written
+pub record Puts (out : List ℕ) (at : ℕ) (bytes : List ℕ) (end : ℕ) (after : List ℕ) : Type 0 where
+  pub ends : end ≡ at + length bytes
+  pub holds : after ≡ written out at bytes
+
+-- a run that goes on: at the start of a piece of the journal, with so many records numbered before it
+abbrev pub goingOn : Memory → ℕ → Run
+goingOn m numbered = record { memory = m; at = 0; numbered = numbered; rows = [] }

@@ -1,0 +1,16 @@
+#!/bin/sh
+# Runs the program replay on further journals and compares all that it prints: empty, short ends, unknown
+# forms, odd pieces through a pipe, and one long enough that the total passes its limit.
+set -eu
+cd "$(dirname "$0")/.."
+
+program=target/bin/replay
+out=target/tests
+mkdir -p "$out"
+if [ ! -x "$program" ]; then
+    echo "30_replay: $program is not there; building it takes a while"
+    rt check replay
+fi
+
+rustc -O --edition 2021 -D warnings -o "$out/replay" tests/replay/main.rs
+"$out/replay" "$program"
