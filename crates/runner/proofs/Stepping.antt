@@ -23,7 +23,7 @@ use Rattle.rules.specs.Journal.{Run, entrySize, kindAt, gapsZero, pictureZero, 
 use Rattle.runner.specs.declared.Progress.{Progress}
 use Rattle.runner.specs.Written.{Puts}
 use Rattle.runner.specs.Progress.{PictureInside, Runs, Steps}
-use Rattle.runner.proofs.Written.{written-length, written-take, printed-last}
+use Rattle.runner.proofs.Written.{written-length, puts-join, printed-last}
 
 -- ---- pictures
 module _ (journal : List ℕ) where
@@ -70,7 +70,7 @@ module _ (journal : List ℕ) where
 module _ (journal : List ℕ) (p : Progress) (m : Memory) (out : List ℕ) where
   pub ended : isEnd (entryAt journal (p .at) .entry) ≡ true → Steps journal p m out p m out
   unfolding perform
-  ended ends = record { runs = λ run r. rw (rw (r .at) at ends) r; room = omega arith; numbers = omega arith }
+  ended ends = record { runs = λ run out₀ same r. rw (rw (r .at) at ends) r; room = omega arith; numbers = omega arith }
 
   pub carried-on : (q : Progress) (out′ : List ℕ) (o : Outcome Answer Memory) → isEnd (entryAt journal (p .at) .entry) ≡ false →
       o ≡ performed journal (entryAt journal (p .at) .entry) m → q .at ≡ entryAt journal (p .at) .next → q .numbered ≡ p .numbered + 1 →
@@ -78,17 +78,18 @@ module _ (journal : List ℕ) (p : Progress) (m : Memory) (out : List ℕ) where
       Steps journal p m out q (o .after) out′
   unfolding perform printing
   carried-on q out′ o more does next counts puts short room =
-      record { runs = λ run r. rw (carried run r) (rows run r); room = short; numbers = omega arith }
+      record { runs = λ run out₀ same r. rw (carried run out₀ r) (rows run out₀ same r); room = short; numbers = omega arith }
     where
-      carried : (run : Run) → Runs run p m out → perform journal run (entryAt journal (run .at)) ≡ printing run (q .at) o
-      carried run r =
+      carried : (run : Run) (out₀ : List ℕ) → Runs run out₀ p m out → perform journal run (entryAt journal (run .at)) ≡ printing run (q .at) o
+      carried run out₀ r =
           let goes : isEnd (entryAt journal (run .at) .entry) ≡ false = rw (r .at) at more in
           let did : o ≡ performed journal (entryAt journal (run .at) .entry) (run .memory) = rw (r .at, r .memory) at does in
           let follows : q .at ≡ entryAt journal (run .at) .next = rw (r .at) at next in
           rw goes (cc)
 
-      rows : (run : Run) → Runs run p m out → Runs (printing run (q .at) o) q (o .after) out′
-      rows run r =
+      rows : (run : Run) (out₀ : List ℕ) → length out₀ ≡ length out → Runs run out₀ p m out →
+          Runs (printing run (q .at) o) out₀ q (o .after) out′
+      rows run out₀ same r =
           let fits : p .end + length (printed (rowOf (q .numbered) o)) ≤ length out = omega arith in
           let number : suc (run .numbered) ≡ q .numbered = omega arith in
           record {
@@ -96,7 +97,5 @@ module _ (journal : List ℕ) (p : Progress) (m : Memory) (out : List ℕ) where
             at = refl;
             numbered = sym number;
             within = rw (puts .holds, written-length out (p .end) _ fits) (omega arith);
-            rows =
-                rw (number, printed-last, ← r .rows, puts .holds, puts .ends)
-                (written-take out (p .end) (printed (rowOf (q .numbered) o)) fits);
+            rows = rw (number, printed-last) (puts-join (omega (arith, r .within)) (r .rows) puts);
           }

@@ -167,7 +167,7 @@ pub fn run(
     out: &mut [u8],
 ) -> Progress
     requires { ⌜ (92 * entryCount (now journal) ≤ length (now out)) × (numbered + entryCount (now journal) < 2 ^ 64) ⌝ }
-    ensures { λ q. ⌜ Runs (runFor (now (journal .entry)) (goingOn (lent (now (table .entry)) gauge (now (lines .entry))) numbered) (entryCount (now (journal .entry)))) q (lent (now (table .exit)) (q .gauge) (now (lines .exit))) (now (out .exit)) × (q .numbered ≤ numbered + entryCount (now (journal .entry))) ⌝ }
+    ensures { λ q. ⌜ Runs (runFor (now (journal .entry)) (goingOn (lent (now (table .entry)) gauge (now (lines .entry))) numbered) (entryCount (now (journal .entry)))) (now (out .entry)) q (lent (now (table .exit)) (q .gauge) (now (lines .exit))) (now (out .exit)) × (q .numbered ≤ numbered + entryCount (now (journal .entry))) ⌝ }
 {
     let n = (journal.len() + (ENTRY_SIZE - 1)) / ENTRY_SIZE;
     let mut p = Progress {

@@ -1,7 +1,7 @@
 -- `runner::run` meets its contract: after i turns memory, position, numbers and rows are those of a run of i records. The measure is
 -- what is left of the records. Assumes nothing.
 use Prim.Native.Nat.{_+_, _-_, _*_, _≤_}
-use mathlib.Core.Path.{_≡_, refl}
+use mathlib.Core.Path.{_≡_, refl, sym}
 use native.Mathlib.Numerals.{add-one}
 use native.Mathlib.Omega.{arith}
 use borrow.Author.Needs.{needs}
@@ -10,6 +10,7 @@ use Rattle.rules.specs.Calls.{lent}
 use Rattle.rules.specs.Journal.{runFor, entryCount, printedAll}
 use Rattle.runner.specs.Written.{goingOn}
 use Rattle.runner.specs.Progress.{Runs}
+use Rattle.runner.proofs.Written.{written-none}
 use Rattle.runner.proofs.run.Statement.{statement}
 use Rattle.runner.proofs.run.Tie as tie
 
@@ -21,7 +22,7 @@ Inv-loop table₀ lines₀ journal numbered out₀ n p₀ i₀ table lines out p
     × (length out ≡ length out₀)
     × (p .end ≤ 92 * i)
     × (p .numbered ≤ numbered + i)
-    × Runs (runFor journal (goingOn (lent table₀ (p₀ .gauge) lines₀) numbered) i) p (lent table (p .gauge) lines) out
+    × Runs (runFor journal (goingOn (lent table₀ (p₀ .gauge) lines₀) numbered) i) out₀ p (lent table (p .gauge) lines) out
 
 abbrev μ-loop : tie.MeasureT-loop
 μ-loop table₀ lines₀ journal numbered out₀ n p₀ i₀ table lines out p i = n - i
@@ -41,7 +42,7 @@ loop-holds c = (
   refl,
   search needs,
   search needs,
-  record { memory = refl; at = refl; numbered = refl; within = search needs; rows = refl },
+  record { memory = refl; at = refl; numbered = refl; within = search needs; rows = record { ends = refl; holds = sym (written-none _ 0) } },
 )
 
 step-requires : tie.Need-step-requires Inv-loop μ-loop
@@ -59,7 +60,7 @@ unfolding runFor
 loop-again c =
     let did = c .before .before .before .before .before .before .step .ensures in
     let at = c .before .before .before .before .before .before .before .before .before .before .before .loop in
-    (search needs, search needs, search needs, search needs, omega arith, omega arith, rw add-one (did .runs _ (at .inv .6)))
+    (search needs, search needs, search needs, search needs, omega arith, omega arith, rw add-one (did .runs _ _ (search needs) (at .inv .6)))
 
 same-length : tie.Need-same-length Inv-loop μ-loop
 same-length c = search needs
