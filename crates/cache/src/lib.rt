@@ -28,8 +28,7 @@ use rules::Record;
 use rules::Reply;
 use rules::Started;
 use rules::Verdict;
-use tracker::coldest_lined;
-use tracker::free_record;
+use tracker::claimable;
 use tracker::hottest_unlined;
 use tracker::in_order;
 use tracker::is_filled;
@@ -37,8 +36,7 @@ use tracker::is_lined;
 use tracker::key_record;
 use tracker::line_of;
 use tracker::lookup;
-use tracker::lowest_unused;
-use tracker::victim;
+use tracker::replaceable;
 
 // The size of a line and of a picture, in bytes.
 pub const LINE_SIZE: usize = 64;
@@ -273,11 +271,12 @@ fn admit(table: &mut [u8], gauge: Gauge, lines: &[u8], i: usize) -> Gauge
         return gauge;
     }
     let c = lines.len() / LINE_SIZE;
-    let line = lowest_unused(table, c);
+    let claim = claimable(table, c);
+    let line = claim.line;
+    let coldest = claim.coldest;
     if line < c {
         return give_line(table, gauge, lines, i, line);
     }
-    let coldest = coldest_lined(table);
     let Found::At(j, s) = coldest else {
         return gauge;
     };
@@ -323,12 +322,18 @@ fn track(table: &mut [u8], gauge: Gauge, lines: &[u8], key: u64, weight: u64, i:
 }
 
 // Step 4.
-fn read_evicting(table: &mut [u8], gauge: Gauge, lines: &[u8], key: u64, weight: u64) -> Reply
-    requires { ⌜ (weight ≤ mostWeight) × HeatsFit (lent (now table) gauge (now lines)) × LinesFit (lent (now table) gauge (now lines)) ⌝ }
+fn read_evicting(
+    table: &mut [u8],
+    gauge: Gauge,
+    lines: &[u8],
+    key: u64,
+    weight: u64,
+    coldest: Found,
+) -> Reply
+    requires { ⌜ (weight ≤ mostWeight) × HeatsFit (lent (now table) gauge (now lines)) × LinesFit (lent (now table) gauge (now lines)) × (coldest ≡ victim (recordAt (now table)) (recordCount (now table))) ⌝ }
     ensures { λ r. ⌜ left r (now (table .exit)) (now (lines .entry)) ≡ place (lent (now (table .entry)) gauge (now (lines .entry))) key weight Nowhere Nowhere (victim (recordAt (now (table .entry))) (recordCount (now (table .entry)))) ⌝ }
     ensures { λ r. ⌜ numberOf (r .answer) < 2 ^ 64 ⌝ }
 {
-    let coldest = victim(table);
     let Found::At(i, v) = coldest else {
         return Reply {
             answer: Answer::Passed,
@@ -354,9 +359,11 @@ fn read_untracked(table: &mut [u8], gauge: Gauge, lines: &[u8], key: u64, weight
     ensures { λ r. ⌜ left r (now (table .exit)) (now (lines .entry)) ≡ place (lent (now (table .entry)) gauge (now (lines .entry))) key weight Nowhere (freeRecord (recordAt (now (table .entry))) (recordCount (now (table .entry)))) (victim (recordAt (now (table .entry))) (recordCount (now (table .entry)))) ⌝ }
     ensures { λ r. ⌜ numberOf (r .answer) < 2 ^ 64 ⌝ }
 {
-    let free = free_record(table);
+    let found = replaceable(table);
+    let free = found.free;
+    let coldest = found.coldest;
     let Found::At(i, _) = free else {
-        return read_evicting(table, gauge, lines, key, weight);
+        return read_evicting(table, gauge, lines, key, weight, coldest);
     };
     let after = track(table, gauge, lines, key, weight, i);
     settle(table, after, lines, i)

@@ -1,3 +1,6 @@
+pub mod All
 pub mod Best
+pub mod Claiming
 pub mod First
 pub mod Marks
+pub mod Replacing

@@ -1,1 +1,3 @@
+pub mod Claiming
 pub mod Marks
+pub mod Replacing

@@ -1,12 +1,15 @@
-// What a pass over the table finds, and the order test. Each loop's body is a function of what it holds, the place and the record.
+// What a pass over the table finds, and the order test.
 ghost use mathlib.Core.Path.{_≡_};
 ghost use mathlib.Core.Bool.{true};
-ghost use Prim.Native.Nat.{_≤_};
+ghost use Prim.Native.Nat.{_+_, _≤_, _<_};
 ghost use lib.ListN.{length};
 ghost use Rattle.rules.specs.Bytes.{recordAt, recordCount};
 ghost use Rattle.rules.specs.Pass.{best};
-ghost use Rattle.rules.specs.Table.{isUnlined, isLined, lineOf, isFilled, isZero, hasKey, keyRecord, freeRecord, colder, hotter, victim, coldestLined, hottestUnlined, lowestUnused, lookup, recordInOrder, inOrder};
+ghost use Rattle.rules.specs.Table.{isUnlined, isLined, lineOf, isFilled, isZero, hasKey, keyRecord, colder, hotter, coldestLined, hottestUnlined, lookup, recordInOrder, inOrder};
+ghost use Rattle.rules.specs.Calls.{mostRecords};
+ghost use Rattle.tracker.specs.Claiming.{LinesFew, linedHeat, ColdestIs, IsClaim};
 ghost use Rattle.tracker.specs.Marks.{Unmarked, Marks, lowestUnmarked};
+ghost use Rattle.tracker.specs.Replacing.{FirstUnlined, ColdestYet, serves, IsReplaceable};
 use records::RECORD_SIZE;
 use records::record_at;
 use rules::Found;
@@ -47,7 +50,7 @@ pub fn line_of(r: Record) -> usize
 fn has_key(r: Record, key: u64) -> bool
     ensures { λ b. ⌜ b ≡ hasKey key r ⌝ }
 {
-    0 < r.state && r.key == key
+    r.key == key && 0 < r.state
 }
 
 // The record of a key.
@@ -66,56 +69,89 @@ pub fn key_record(table: &[u8], key: u64) -> Found
     Found::Nowhere
 }
 
-// The first free record.
-pub fn free_record(table: &[u8]) -> Found
-    ensures { λ r. ⌜ r ≡ freeRecord (recordAt (now (table .entry))) (recordCount (now (table .entry))) ⌝ }
+// ---- the record that an untracked key gets
+
+// The first free record, and the coldest without a line where none is free: the one to evict.
+pub struct Replacements {
+    pub free: Found,
+    pub coldest: Found,
+}
+
+// The first place whose record has no line, or the number of records.
+fn first_unlined(table: &[u8]) -> usize
+    ensures { λ i. ⌜ FirstUnlined (recordAt (now (table .entry))) (recordCount (now (table .entry))) i ⌝ }
 {
     let n = table.len() / RECORD_SIZE;
     let mut i = 0;
     while i < n {
         let r = record_at(table, i);
-        if r.state == 0 {
-            return Found::At(i, r);
+        if r.state < 2 {
+            return i;
         }
         i += 1;
     }
-    Found::Nowhere
+    n
+}
+
+// Whether a record is free, or without a line and colder than the one that is held.
+fn serves(r: Record, least: u64) -> bool
+    ensures { λ b. ⌜ b ≡ serves least r ⌝ }
+{
+    let limit = if r.heat < least { 2 } else { 1 };
+    r.state < limit
+}
+
+// The same search from a place on, before which no record is free and the coldest without a line is known.
+fn replaceable_from(table: &[u8], from: usize, held: usize) -> Replacements
+    requires { ⌜ (from ≤ recordCount (now table)) × (held < recordCount (now table)) × ColdestYet (recordAt (now table)) from held ⌝ }
+    ensures { λ r. ⌜ IsReplaceable (recordAt (now (table .entry))) (recordCount (now (table .entry))) (r .free) (r .coldest) ⌝ }
+{
+    let n = table.len() / RECORD_SIZE;
+    let mut best = held;
+    let mut least = record_at(table, held).heat;
+    let mut i = from;
+    while i < n {
+        let r = record_at(table, i);
+        if serves(r, least) {
+            if r.state == 0 {
+                return Replacements {
+                    free: Found::At(i, r),
+                    coldest: Found::Nowhere,
+                };
+            }
+            best = i;
+            least = r.heat;
+        }
+        i += 1;
+    }
+    Replacements {
+        free: Found::Nowhere,
+        coldest: Found::At(best, record_at(table, best)),
+    }
+}
+
+// What an untracked key can replace, in one pass that stops at a free record.
+pub fn replaceable(table: &[u8]) -> Replacements
+    ensures { λ r. ⌜ IsReplaceable (recordAt (now (table .entry))) (recordCount (now (table .entry))) (r .free) (r .coldest) ⌝ }
+{
+    let i = first_unlined(table);
+    if table.len() / RECORD_SIZE <= i {
+        return Replacements {
+            free: Found::Nowhere,
+            coldest: Found::Nowhere,
+        };
+    }
+    let r = record_at(table, i);
+    if r.state == 0 {
+        return Replacements {
+            free: Found::At(i, r),
+            coldest: Found::Nowhere,
+        };
+    }
+    replaceable_from(table, i + 1, i)
 }
 
 // ---- searches that see every record
-
-fn colder_unlined(held: Found, i: usize, r: Record) -> Found
-    ensures { λ f. ⌜ f ≡ best isUnlined colder held i r ⌝ }
-{
-    if is_unlined(r) {
-        match held {
-            Found::Nowhere => Found::At(i, r),
-            Found::At(_, victim) => {
-                if r.heat < victim.heat {
-                    Found::At(i, r)
-                } else {
-                    held
-                }
-            }
-        }
-    } else {
-        held
-    }
-}
-
-// The coldest record without a line: the one to evict.
-pub fn victim(table: &[u8]) -> Found
-    ensures { λ r. ⌜ r ≡ victim (recordAt (now (table .entry))) (recordCount (now (table .entry))) ⌝ }
-{
-    let n = table.len() / RECORD_SIZE;
-    let mut held = Found::Nowhere;
-    let mut i = 0;
-    while i < n {
-        held = colder_unlined(held, i, record_at(table, i));
-        i += 1;
-    }
-    held
-}
 
 fn colder_lined(held: Found, i: usize, r: Record) -> Found
     ensures { λ f. ⌜ f ≡ best isLined colder held i r ⌝ }
@@ -137,7 +173,7 @@ fn colder_lined(held: Found, i: usize, r: Record) -> Found
 }
 
 // The coldest record on a line.
-pub fn coldest_lined(table: &[u8]) -> Found
+fn coldest_lined(table: &[u8]) -> Found
     ensures { λ r. ⌜ r ≡ coldestLined (recordAt (now (table .entry))) (recordCount (now (table .entry))) ⌝ }
 {
     let n = table.len() / RECORD_SIZE;
@@ -203,35 +239,56 @@ pub fn lookup(table: &[u8], key: u64) -> Lookup
     }
 }
 
-// ---- the lowest unused line
+// ---- the line that a record gets
 
-// Marks every line that a record is on, as far as there are marks.
-fn mark_used(table: &[u8], used: &mut [u8])
-    requires { ⌜ Unmarked (now used) ⌝ }
-    ensures { λ _. ⌜ Marks (recordAt (now (table .entry))) (recordCount (now (table .entry))) (now (used .exit)) ⌝ }
+// The lowest line that no record is on, or the number of lines; and the coldest record on a line.
+pub struct Claim {
+    pub line: usize,
+    pub coldest: Found,
+}
+
+// The heat of a record on a line; where it is on none, the largest number.
+fn lined_heat(r: Record) -> u64
+    ensures { λ h. ⌜ h ≡ linedHeat r ⌝ }
+{
+    if is_lined(r) {
+        r.heat
+    } else {
+        18446744073709551615
+    }
+}
+
+// Marks the line of every record, line n at n + 1, and finds the coldest record on a line. A record that is on none marks place 0.
+// Finds none, which is the number of records, also where every record on a line has the largest heat.
+fn mark_lines(table: &[u8], used: &mut [u8]) -> usize
+    requires { ⌜ Unmarked (now used) × LinesFew (recordAt (now table)) (recordCount (now table)) (length (now used)) ⌝ }
+    ensures { λ r. ⌜ Marks (recordAt (now (table .entry))) (recordCount (now (table .entry))) (now (used .exit)) × ColdestIs (recordAt (now (table .entry))) (recordCount (now (table .entry))) r ⌝ }
 {
     let n = table.len() / RECORD_SIZE;
+    let mut best = n;
+    let mut least = 18446744073709551615;
     let mut i = 0;
     while i < n {
         let r = record_at(table, i);
-        if is_lined(r) {
-            let line = line_of(r);
-            if line < used.len() {
-                used[line] = 1;
-            }
+        used[(r.state / 2) as usize] = 1;
+        let heat = lined_heat(r);
+        if heat < least {
+            best = i;
+            least = heat;
         }
         i += 1;
     }
+    best
 }
 
 // The lowest of the first lines that has no mark, or their number.
 fn lowest_unmarked(used: &[u8], lines: usize) -> usize
-    requires { ⌜ lines ≤ length (now used) ⌝ }
+    requires { ⌜ lines < length (now used) ⌝ }
     ensures { λ r. ⌜ r ≡ lowestUnmarked (now (used .entry)) lines ⌝ }
 {
     let mut i = 0;
     while i < lines {
-        if used[i] == 0 {
+        if used[i + 1] == 0 {
             return i;
         }
         i += 1;
@@ -239,14 +296,38 @@ fn lowest_unmarked(used: &[u8], lines: usize) -> usize
     lines
 }
 
-// The lowest line that no record is on, or the number of lines. One pass over the records and one over the lines.
-pub fn lowest_unused(table: &[u8], lines: usize) -> usize
-    requires { ⌜ lines ≤ 1024 ⌝ }
-    ensures { λ r. ⌜ r ≡ lowestUnused (recordAt (now (table .entry))) (recordCount (now (table .entry))) lines ⌝ }
+// What a record without a line can claim, over marks that are all clear.
+fn claim_marking(table: &[u8], lines: usize, used: &mut [u8]) -> Claim
+    requires { ⌜ Unmarked (now used) × (lines < length (now used)) × LinesFew (recordAt (now table)) (recordCount (now table)) (length (now used)) ⌝ }
+    ensures { λ r. ⌜ IsClaim (recordAt (now (table .entry))) (recordCount (now (table .entry))) lines (r .line) (r .coldest) ⌝ }
 {
-    let mut used = [0u8; 1024];
-    mark_used(table, &mut used);
-    lowest_unmarked(&used, lines)
+    let best = mark_lines(table, used);
+    let line = lowest_unmarked(used, lines);
+    if best < table.len() / RECORD_SIZE {
+        Claim {
+            line,
+            coldest: Found::At(best, record_at(table, best)),
+        }
+    } else {
+        Claim {
+            line,
+            coldest: coldest_lined(table),
+        }
+    }
+}
+
+// What a record without a line can claim, in one pass over the records and one over the lines. Few lines want few marks.
+pub fn claimable(table: &[u8], lines: usize) -> Claim
+    requires { ⌜ (lines < mostRecords) × LinesFew (recordAt (now table)) (recordCount (now table)) (lines + 1) ⌝ }
+    ensures { λ r. ⌜ IsClaim (recordAt (now (table .entry))) (recordCount (now (table .entry))) lines (r .line) (r .coldest) ⌝ }
+{
+    if lines < 64 {
+        let mut few = [0u8; 64];
+        claim_marking(table, lines, &mut few)
+    } else {
+        let mut many = [0u8; 1024];
+        claim_marking(table, lines, &mut many)
+    }
 }
 
 // ---- order
@@ -295,16 +376,17 @@ pub fn in_order(table: &[u8], gauge: Gauge, lines: usize) -> bool
         return false;
     }
     let n = table.len() / RECORD_SIZE;
-    let mut good = true;
     let mut lined = 0;
     let mut i = 0;
     while i < n {
         let r = record_at(table, i);
-        good = good && record_in_order(r, total, lines);
+        if !record_in_order(r, total, lines) {
+            return false;
+        }
         if is_lined(r) {
             lined += 1;
         }
         i += 1;
     }
-    good && lined <= lines
+    lined <= lines
 }

@@ -26,9 +26,11 @@ returns : tie.Need-returns
 unfolding admit places
 returns c = rw (← c .before .before .record-at .ensures, ← c .before .is-lined .ensures, c .if1 .taken)
 
-lowest-unused-requires : tie.Need-lowest-unused-requires
-unfolding lineTotal lineCount
-lowest-unused-requires c κs = search needs
+claimable-requires : tie.Need-claimable-requires
+unfolding places size lineTotal lineCount
+claimable-requires c κs =
+    let fits = c .before .before .before .before .before .before .before .pre .1 in
+    (search needs, record { state = λ j below. let most = fits .state j below in omega arith })
 
 give-line-requires : tie.Need-give-line-requires
 unfolding lineTotal lineCount
@@ -38,10 +40,10 @@ same-length-2 : tie.Need-same-length-2
 same-length-2 c = search needs
 
 -- a record that is on no line seeks one
-seeks : (c : tie.After-lowest-unused) →
+seeks : (c : tie.After-claimable) →
     let args = c .before .before .before .before .before .before .before .before .args in
     let m = lent (now (args .table)) (args .gauge) (now (args .lines)) in
-    admit m (args .i) ≡ seek m (args .i) (c .lowest-unused .result)
+    admit m (args .i) ≡ seek m (args .i) (c .claimable .result .line)
 unfolding admit places size lineTotal lineCount
 seeks c =
     let asked = c .before .before .before in
@@ -49,7 +51,7 @@ seeks c =
       ← asked .before .record-at .ensures,
       ← asked .is-lined .ensures,
       c .before .before .if1 .left,
-      ← c .lowest-unused .ensures,
+      ← c .claimable .ensures .line-is,
     )
 
 returns-2 : tie.Need-returns-2
@@ -57,9 +59,6 @@ unfolding seek lineTotal lineCount
 returns-2 c =
     let unused = c .before .before .before .before in
     rw (seeks (unused .before), lt-ltb _ _ (unused .if2 .taken)) (c .before .before .give-line .ensures)
-
-coldest-lined-requires : tie.Need-coldest-lined-requires
-coldest-lined-requires c κs = search needs
 
 enum-known-coldest : tie.Need-enum-known-coldest
 enum-known-coldest c = search needs
@@ -71,12 +70,12 @@ same-length-3 : tie.Need-same-length-3
 same-length-3 c = search needs
 
 -- and where every line is used, it challenges the coldest that is on one
-challenges : (c : tie.After-coldest-lined) →
-    let args = c .before .before .before .before .before .before .before .before .before .before .before .args in
+challenges : (c : tie.Else2) →
+    let args = c .before .before .before .before .before .before .before .before .before .args in
     let m = lent (now (args .table)) (args .gauge) (now (args .lines)) in
-    admit m (args .i) ≡ challenge m (args .i) (c .coldest-lined .result)
+    admit m (args .i) ≡ challenge m (args .i) (c .before .claimable .result .coldest)
 unfolding seek places size lineTotal lineCount
-challenges c = rw (seeks (c .before .before .before), le-ltb _ _ (c .before .before .if2 .left), ← c .coldest-lined .ensures)
+challenges c = rw (seeks (c .before), le-ltb _ _ (c .if2 .left), ← c .before .claimable .ensures .coldest-is)
 
 returns-3 : tie.Need-returns-3
 unfolding challenge
@@ -87,8 +86,8 @@ unfolding isLined lineOf places size lineTotal
 hand-over-requires c κs =
     let told = c .before .before .before .before .before in
     let looked = told .before .before in
-    let found = coldest-found _ _ _ _ (sym (looked .coldest-lined .ensures) ∙ told .coldest .given .1) in
-    let (inside, fits) = looked .before .before .before .before .before .before .before .before .before .before .before .pre in
+    let found = coldest-found _ _ _ _ (sym (looked .before .claimable .ensures .coldest-is) ∙ told .coldest .given .1) in
+    let (inside, fits) = looked .before .before .before .before .before .before .before .before .before .pre in
     (found .inside, inside, lt-ltb _ _ (found .has .0), omega (arith, fits .state _ (found .inside), fits .lines))
 
 same-length-4 : tie.Need-same-length-4
@@ -101,7 +100,7 @@ returns-4 c =
     rw (
       challenges (told .before .before),
       told .coldest .given .1,
-      ← told .before .before .before .before .before .before .before .before .before .record-at .ensures,
+      ← told .before .before .before .before .before .before .before .record-at .ensures,
       lt-ltb _ _ (c .before .before .before .before .if3 .taken),
     ) (c .before .before .hand-over .ensures)
 
@@ -115,7 +114,7 @@ returns-5 c =
     rw (
       challenges (told .before .before),
       told .coldest .given .1,
-      ← told .before .before .before .before .before .before .before .before .before .record-at .ensures,
+      ← told .before .before .before .before .before .before .before .record-at .ensures,
       le-ltb _ _ (c .if3 .left),
     )
 
@@ -127,11 +126,10 @@ admit-spec =
     is-lined-requires
     same-length
     returns
-    lowest-unused-requires
+    claimable-requires
     give-line-requires
     same-length-2
     returns-2
-    coldest-lined-requires
     enum-known-coldest
     enum-told
     same-length-3

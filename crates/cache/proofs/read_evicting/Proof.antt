@@ -15,25 +15,19 @@ use Rattle.cache.proofs.Tracked.{lines-track}
 use Rattle.cache.proofs.read_evicting.Statement.{statement}
 use Rattle.cache.proofs.read_evicting.Tie as tie
 
-victim-requires : tie.Need-victim-requires
-victim-requires c κs = search needs
-
 enum-known-coldest : tie.Need-enum-known-coldest
 enum-known-coldest c = search needs
 
 enum-told : tie.Need-enum-told
 enum-told c = search needs
 
-same-length : tie.Need-same-length
-same-length c = search needs
-
 returns : tie.Need-returns
 unfolding place numberOf
-returns c = (rw (← c .before .before .victim .ensures, c .enum-told .given .1), omega arith)
+returns c = (rw (← c .before .before .before .before .pre .3, c .enum-told .given .1), omega arith)
 
 larger : (c : tie.Joined1) →
     let told = c .before .before .before .before in
-    let gauge = told .before .before .before .before .before .before .args .gauge in
+    let gauge = told .before .before .before .before .args .gauge in
     c .if1 .ceiling ≡ max (gauge .ceiling) (told .coldest .given .0 .1 .0 .heat)
 larger c = ⊎-elim (λ w. omega (arith, w .1)) (λ w. omega (arith, w .1)) (c .if1 .came)
 
@@ -41,31 +35,31 @@ ceiling-most : (c : tie.Joined1) → c .if1 .ceiling ≤ mostTotal
 unfolding places size
 ceiling-most c =
     let told = c .before .before .before .before in
-    let found = victim-found _ _ _ _ (sym (told .before .before .victim .ensures) ∙ told .coldest .given .1) in
-    let heats = told .before .before .before .before .before .before .pre .1 in
+    let found = victim-found _ _ _ _ (sym (told .before .before .before .before .pre .3) ∙ told .coldest .given .1) in
+    let heats = told .before .before .before .before .pre .1 in
     omega (arith, larger c, heats .ceiling, rw (← found .is) at (heats .heat _ (found .inside)))
 
 track-requires : tie.Need-track-requires
 track-requires c κs =
     let told = c .before .before .before .before .before in
-    let found = victim-found _ _ _ _ (sym (told .before .before .victim .ensures) ∙ told .coldest .given .1) in
-    (found .inside, told .before .before .before .before .before .before .pre .0, ceiling-most (c .before))
+    let found = victim-found _ _ _ _ (sym (told .before .before .before .before .pre .3) ∙ told .coldest .given .1) in
+    (found .inside, told .before .before .before .before .pre .0, ceiling-most (c .before))
 
 settle-requires : tie.Need-settle-requires
 unfolding recordCount size withGauge
 settle-requires c κs =
     let raised = c .before .before .before .before .before in
     let told = raised .before .before .before .before in
-    let found = victim-found _ _ _ _ (sym (told .before .before .victim .ensures) ∙ told .coldest .given .1) in
-    let start = told .before .before .before .before .before .before in
-    let (weight, heats, lines) = start .pre in (
+    let found = victim-found _ _ _ _ (sym (told .before .before .before .before .pre .3) ∙ told .coldest .given .1) in
+    let start = told .before .before .before .before in
+    let (weight, heats, lines, _) = start .pre in (
       search needs,
       rw (c .before .before .before .track .ensures)
           (lines-track _ _ _ _ (lines-gauge _ _ lines) (found .inside) (omega (arith, start .good)) weight (ceiling-most raised)),
     )
 
-same-length-2 : tie.Need-same-length-2
-same-length-2 c = search needs
+same-length : tie.Need-same-length
+same-length c = search needs
 
 returns-2 : tie.Need-returns-2
 unfolding place evict raised withGauge
@@ -73,7 +67,7 @@ returns-2 c =
     let raised = c .before .before .before .before .before .before .before .before in
     let told = raised .before .before .before .before in
     rw (
-      ← told .before .before .victim .ensures,
+      ← told .before .before .before .before .pre .3,
       told .coldest .given .1,
       ← larger raised,
       ← c .before .before .before .before .before .before .track .ensures,
@@ -83,12 +77,10 @@ pub read-evicting-spec : {M : Type 1} → statement M
 read-evicting-spec =
     tie.close
     (tie.spec
-    victim-requires
     enum-known-coldest
     enum-told
-    same-length
     returns
     track-requires
     settle-requires
-    same-length-2
+    same-length
     returns-2)

@@ -1,4 +1,4 @@
--- `cache::read_untracked` meets its contract: the arms are the definition's, at what `free_record` found. Assumes nothing.
+-- `cache::read_untracked` meets its contract: the arms are the definition's, at what `replaceable` found. Assumes nothing.
 use mathlib.Core.Path.{sym, _∙_}
 use native.Mathlib.Omega.{arith}
 use borrow.Author.Needs.{needs}
@@ -10,8 +10,8 @@ use Rattle.cache.proofs.Tracked.{lines-track}
 use Rattle.cache.proofs.read_untracked.Statement.{statement}
 use Rattle.cache.proofs.read_untracked.Tie as tie
 
-free-record-requires : tie.Need-free-record-requires
-free-record-requires c κs = search needs
+replaceable-requires : tie.Need-replaceable-requires
+replaceable-requires c κs = search needs
 
 enum-known-free : tie.Need-enum-known-free
 enum-known-free c = search needs
@@ -20,7 +20,11 @@ enum-told : tie.Need-enum-told
 enum-told c = search needs
 
 read-evicting-requires : tie.Need-read-evicting-requires
-read-evicting-requires c κs = search needs
+read-evicting-requires c κs =
+    let told = c .before in
+    let found = told .before .before .replaceable .ensures in
+    let (weight, heats, lines) = told .before .before .before .before .before .before .pre in
+    (weight, heats, lines, found .coldest-is (told .enum-told .given .1))
 
 same-length : tie.Need-same-length
 same-length c = search needs
@@ -29,12 +33,12 @@ returns : tie.Need-returns
 unfolding place
 returns c =
     let told = c .before .before .before .before in
-    rw (← told .before .before .free-record .ensures, told .enum-told .given .1) (c .before .before .read-evicting .ensures)
+    rw (← told .before .before .replaceable .ensures .free-is, told .enum-told .given .1) (c .before .before .read-evicting .ensures)
 
 track-requires : tie.Need-track-requires
 track-requires c κs =
     let told = c .before .before in
-    let found = free-found _ _ _ _ (sym (told .before .before .free-record .ensures) ∙ told .free .given .1) in
+    let found = free-found _ _ _ _ (sym (told .before .before .replaceable .ensures .free-is) ∙ told .free .given .1) in
     let (weight, heats, lines) = told .before .before .before .before .before .before .pre in
     (found .inside, weight, heats .ceiling)
 
@@ -42,7 +46,7 @@ settle-requires : tie.Need-settle-requires
 unfolding recordCount size
 settle-requires c κs =
     let told = c .before .before .before .before .before .before in
-    let found = free-found _ _ _ _ (sym (told .before .before .free-record .ensures) ∙ told .free .given .1) in
+    let found = free-found _ _ _ _ (sym (told .before .before .replaceable .ensures .free-is) ∙ told .free .given .1) in
     let (weight, heats, lines) = told .before .before .before .before .before .before .pre in (
       search needs,
       rw (c .before .before .before .track .ensures)
@@ -58,7 +62,7 @@ returns-2 c =
     let tracked = c .before .before .before .before .before .before in
     let told = tracked .before .before .before in
     rw (
-      ← told .before .before .free-record .ensures,
+      ← told .before .before .replaceable .ensures .free-is,
       told .free .given .1,
       ← tracked .track .ensures,
     ) (c .before .before .settle .ensures)
@@ -67,7 +71,7 @@ pub read-untracked-spec : {M : Type 1} → statement M
 read-untracked-spec =
     tie.close
     (tie.spec
-    free-record-requires
+    replaceable-requires
     enum-known-free
     enum-told
     read-evicting-requires

@@ -1,27 +1,27 @@
--- `tracker::in_order` meets its contract: the gauge's two tests come first, and after i records the loop has the definition's test
--- and count of the first i. The measure is what is left of the table. Assumes nothing.
+-- `tracker::in_order` meets its contract: the gauge's two tests come first, and after i records the first i are in order and
+-- counted; a record that is not in order settles the answer. The measure is what is left of the table. Assumes nothing.
 use Prim.Native.Nat.{_≤_, _-_}
 use mathlib.Core.Path.{_≡_, refl}
 use mathlib.Core.Logic.{⊎-elim}
-use mathlib.Core.Bool.{_&&_}
+use mathlib.Core.Bool.{true}
 use native.Mathlib.Numerals.{add-one}
 use native.Mathlib.Omega.{arith}
 use borrow.Author.Needs.{needs}
-use borrow.Author.Tests.{le-leb, lt-leb}
-use lib.Dec.{leb}
+use borrow.Author.Tests.{le-leb, lt-leb, not-true, not-false}
 use Rattle.rules.specs.Bytes.{recordAt, recordCount}
 use Rattle.rules.specs.Pass.{pass, sumOf, countOf, allOf}
 use Rattle.rules.specs.Table.{isLined, recordInOrder, inOrder}
 use Rattle.rules.proofs.Searches.{count-within}
+use Rattle.tracker.proofs.All.{one-fails, still-all}
 use Rattle.tracker.proofs.in_order.Statement.{statement}
 use Rattle.tracker.proofs.in_order.Tie as tie
 
 abbrev Inv-loop : tie.InvT-loop
-Inv-loop table lines total n good₀ lined₀ i₀ good lined i =
-    (i ≤ n) × (good ≡ allOf (recordInOrder total lines) (recordAt table) i) × (lined ≡ countOf isLined (recordAt table) i)
+Inv-loop table lines total n lined₀ i₀ lined i =
+    (i ≤ n) × (allOf (recordInOrder total lines) (recordAt table) i ≡ true) × (lined ≡ countOf isLined (recordAt table) i)
 
 abbrev μ-loop : tie.MeasureT-loop
-μ-loop table lines total n good₀ lined₀ i₀ good lined i = n - i
+μ-loop table lines total n lined₀ i₀ lined i = n - i
 
 returns : tie.Need-returns Inv-loop μ-loop
 unfolding inOrder
@@ -47,7 +47,7 @@ is-lined-requires c κs = search needs
 
 add-lined : tie.Need-add-lined Inv-loop μ-loop
 add-lined c =
-    let at = c .before .before .before .before .before in
+    let at = c .before .before .before .before .before .before in
     omega (arith, count-within isLined (recordAt (at .before .before .before .before .before .args .table .now)) (at .loop .i))
 
 add-i : tie.Need-add-i Inv-loop μ-loop
@@ -57,29 +57,35 @@ loop-less : tie.Need-loop-less Inv-loop μ-loop
 loop-less c = search needs
 
 loop-again : tie.Need-loop-again Inv-loop μ-loop
-unfolding allOf countOf sumOf pass
+unfolding countOf sumOf pass
 loop-again c =
-    let read = c .before .before .before .record-at .ensures in
+    let good = c .before .before .before in
+    let read = good .before .record-at .ensures in
     let on-line = c .before .is-lined .ensures in
-    let inv = c .before .before .before .before .before .loop .inv in (
+    let inv = good .before .before .before .loop .inv in (
       search needs,
-      ⊎-elim
-          (λ w. rw (add-one, w .2, w .1 .ensures, read, ← inv .1, w .0 .taken))
-          (λ w. rw (add-one, w .1, ← inv .1, w .0 .left))
-          (c .before .before .if3 .came),
+      still-all _ _ _ _ read (inv .1) (rw (← good .record-in-order .ensures) (not-false _ (c .before .before .if3 .left))),
       ⊎-elim
           (λ w. rw (add-one, w .1, ← inv .2, ← read, ← on-line, w .0 .taken))
           (λ w. rw (add-one, w .1, ← inv .2, ← read, ← on-line, w .0 .left) (omega arith))
           (c .if4 .came),
     )
 
--- after the loop, what is left to test
-at-end : (c : tie.After-loop Inv-loop μ-loop) →
-    let args = c .before .before .before .before .before .before .args in
-    (c .before .loop .good && leb (c .before .loop .lined) (args .lines))
-    ≡ inOrder (recordAt (args .table .now)) (recordCount (args .table .now)) (args .lines) (args .gauge)
+returns-3 : tie.Need-returns-3 Inv-loop μ-loop
 unfolding inOrder recordCount
-at-end c =
+returns-3 c =
+    let read = c .before .before in
+    let gauge = read .before .before .before in
+    let fails = not-true (c .before .record-in-order .result) (c .if3 .taken) in
+    rw (
+      le-leb _ _ (gauge .before .before .if1 .left),
+      le-leb _ _ (gauge .if2 .left),
+      one-fails _ _ _ _ (read .record-at .ensures) _ (read .before .loop-test .taken) (rw (c .before .record-in-order .ensures) at fails),
+    )
+
+returns-4 : tie.Need-returns-4 Inv-loop μ-loop
+unfolding inOrder recordCount
+returns-4 c =
     let at = c .before in
     let gauge = at .before in
     let e : at .loop .i ≡ recordCount (gauge .before .before .before .before .args .table .now) = omega arith in
@@ -87,15 +93,9 @@ at-end c =
       le-leb _ _ (gauge .before .before .if1 .left),
       le-leb _ _ (gauge .if2 .left),
       ← e,
-      ← at .loop .inv .1,
+      at .loop .inv .1,
       ← at .loop .inv .2,
     )
-
-returns-3 : tie.Need-returns-3 Inv-loop μ-loop
-returns-3 c = rw (c .if5 .taken) at (at-end (c .before))
-
-returns-4 : tie.Need-returns-4 Inv-loop μ-loop
-returns-4 c = rw (c .if5 .left) (rw (c .if5 .left) at (at-end (c .before)))
 
 pub in-order-spec : {M : Type 1} → statement M
 in-order-spec =
@@ -108,10 +108,10 @@ in-order-spec =
     loop-holds
     record-at-requires
     record-in-order-requires
+    returns-3
     is-lined-requires
     add-lined
     add-i
     loop-less
     loop-again
-    returns-3
     returns-4)
