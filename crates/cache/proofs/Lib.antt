@@ -1,4 +1,1 @@
-pub mod Rooms
-pub mod Checks
-pub mod Tracked
 pub mod Lined

@@ -19,7 +19,7 @@ use Rattle.rules.specs.Pass.{if_then_else_}
 use Rattle.rules.specs.Table.{Memory, isLined, isFilled, lineOf, keyRecord, lookup, lookedUp, places, size, lineTotal}
 use Rattle.rules.specs.Calls.{mostRecords}
 use Rattle.rules.proofs.Finds.{key-found}
-use Rattle.cache.specs.Room.{LinesFit}
+use Rattle.lines.specs.Room.{LinesFit}
 
 -- the record at place i is on line n
 pub record IsOn (m : Memory) (i n : ℕ) : Type 0 where

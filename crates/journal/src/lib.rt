@@ -3,12 +3,19 @@ ghost use mathlib.Core.Path.{_≡_};
 ghost use Prim.Native.Nat.{_+_, _≤_, _<_};
 ghost use lib.ListN.{length};
 ghost use Rattle.rules.specs.Journal.{entrySize, weightAt, zeros, gapsZero, ofForm, wholeEntry, decoded, entryAt};
+use records::LINE_SIZE;
 use records::get_u64;
 use rules::Decoded;
 use rules::Entry;
+use rules::SHORT_END;
+use rules::UNKNOWN_FORM;
 
 // The size of a journal record, in bytes.
 pub const ENTRY_SIZE: usize = 80;
+// Where its key and its picture lie in it.
+const KEY_AT: usize = 8;
+
+const PICTURE_AT: usize = 16;
 
 // ---- the forms
 
@@ -53,7 +60,7 @@ fn of_form(good: bool, entry: Entry) -> Entry
     if good {
         return entry;
     }
-    Entry::Refused(7)
+    Entry::Refused(UNKNOWN_FORM)
 }
 
 // A record of 80 bytes that begins at a position.
@@ -64,12 +71,12 @@ fn whole_entry(bytes: &[u8], at: usize) -> Entry
     let kind = bytes[at];
     let gaps = gaps_zero(bytes, at);
     let weight = weight_at(bytes, at);
-    let key = get_u64(bytes, at + 8);
+    let key = get_u64(bytes, at + KEY_AT);
     if kind == 3 {
-        let picture = at + 16;
+        let picture = at + PICTURE_AT;
         return of_form(gaps & (weight == 0), Entry::Fill { key, picture });
     }
-    let blank = zeros(bytes, at + 16, 64);
+    let blank = zeros(bytes, at + PICTURE_AT, LINE_SIZE);
     if kind == 1 {
         return of_form(gaps & blank, Entry::Read { key, weight });
     }
@@ -94,7 +101,7 @@ pub fn decode(bytes: &[u8], at: usize) -> Decoded
     }
     if bytes.len() - at < ENTRY_SIZE {
         return Decoded {
-            entry: Entry::Refused(8),
+            entry: Entry::Refused(SHORT_END),
             next: at,
         };
     }

@@ -1,12 +1,21 @@
 // Numbers and records in lent bytes. Only proved callers reach these functions, so each may ask that its place lies inside.
 ghost use mathlib.Core.Path.{_≡_};
-ghost use Prim.Native.Nat.{_+_, _*_, _<_, _≤_};
+ghost use Prim.Native.Nat.{_+_, _<_, _≤_};
 ghost use lib.ListN.{length};
-ghost use Rattle.rules.specs.Bytes.{get64, put64, recordSize, recordAt, putRecord, recordCount};
+ghost use Rattle.rules.specs.Bytes.{get64, put64, recordAt, putRecord, recordCount};
 use rules::Record;
 
 // The size of a record, in bytes.
 pub const RECORD_SIZE: usize = 32;
+// Where its numbers lie in it, after the key.
+const HEAT_AT: usize = 8;
+
+const SLACK_AT: usize = 16;
+
+const STATE_AT: usize = 24;
+
+// The size of a line and of a picture, in bytes.
+pub const LINE_SIZE: usize = 64;
 
 // A byte as a wider number.
 fn wide(b: u8) -> u64
@@ -53,9 +62,9 @@ pub fn record_at(table: &[u8], i: usize) -> Record
     let at = RECORD_SIZE * i;
     Record {
         key: get_u64(table, at),
-        heat: get_u64(table, at + 8),
-        slack: get_u64(table, at + 16),
-        state: get_u64(table, at + 24),
+        heat: get_u64(table, at + HEAT_AT),
+        slack: get_u64(table, at + SLACK_AT),
+        state: get_u64(table, at + STATE_AT),
     }
 }
 
@@ -66,7 +75,7 @@ pub fn put_record(table: &mut [u8], i: usize, r: Record)
 {
     let at = RECORD_SIZE * i;
     put_u64(table, at, r.key);
-    put_u64(table, at + 8, r.heat);
-    put_u64(table, at + 16, r.slack);
-    put_u64(table, at + 24, r.state);
+    put_u64(table, at + HEAT_AT, r.heat);
+    put_u64(table, at + SLACK_AT, r.slack);
+    put_u64(table, at + STATE_AT, r.state);
 }

@@ -2,7 +2,7 @@
 use Prim.Native.Nat.{ℕ, _*_}
 use mathlib.Core.Path.{_≡_, refl}
 use mathlib.Core.Bool.{true, false}
-use mathlib.Core.List.{List, []}
+use mathlib.Core.List.{[]}
 use lib.ListN.{replicate}
 use Rattle.rules.specs.declared.Answer.the-variants.{Refused}
 use Rattle.rules.specs.declared.Verdict.{Verdict}

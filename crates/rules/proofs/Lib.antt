@@ -1,4 +1,5 @@
 pub mod Computing
+pub mod Branches
 pub mod Rows
 pub mod Words
 pub mod Places

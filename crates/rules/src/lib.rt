@@ -1,4 +1,29 @@
-// The declared types of the pattern cache. What they mean, and what every call does with them, is in specs/.
+// The declared types of the pattern cache and the numbers of document 01 that code uses. What they mean, and what every call does with
+// them, is in specs/.
+
+// L: the most that the total may be.
+pub const MOST_TOTAL: u64 = 4294967295;
+// The most that a read or an update may weigh.
+pub const MOST_WEIGHT: u64 = 65535;
+// The most records that a table may have.
+pub const MOST_RECORDS: usize = 1024;
+
+// The causes of refusal.
+pub const WRONG_SIZES: u64 = 1;
+
+pub const WRONG_WEIGHT: u64 = 2;
+
+pub const NOT_IN_ORDER: u64 = 3;
+
+pub const WRONG_PICTURE: u64 = 4;
+
+pub const NO_LINE: u64 = 5;
+
+pub const ALREADY_FILLED: u64 = 6;
+
+pub const UNKNOWN_FORM: u64 = 7;
+
+pub const SHORT_END: u64 = 8;
 
 // One of the table's records: a class that is tracked, or a free place.
 pub struct Record {

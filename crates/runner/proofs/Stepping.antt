@@ -21,9 +21,9 @@ use Rattle.rules.specs.Table.{Memory}
 use Rattle.rules.specs.Steps.{Outcome}
 use Rattle.rules.specs.Journal.{Run, entrySize, kindAt, gapsZero, pictureZero, weightZero, keyZero, keyAt, weightAt, wholeEntry, ofForm, picturePlace, decoded, entryAt, printed, rowOf, printing, performed, isEnd, perform}
 use Rattle.runner.specs.declared.Progress.{Progress}
-use Rattle.runner.specs.Written.{Puts}
+use Rattle.rows.specs.Written.{rowSize, Puts}
 use Rattle.runner.specs.Progress.{PictureInside, Runs, Steps}
-use Rattle.runner.proofs.Written.{written-length, puts-join, printed-last}
+use Rattle.rows.proofs.Written.{written-length, puts-join, printed-last}
 
 -- ---- pictures
 module _ (journal : List ℕ) where
@@ -74,7 +74,7 @@ module _ (journal : List ℕ) (p : Progress) (m : Memory) (out : List ℕ) where
 
   pub carried-on : (q : Progress) (out′ : List ℕ) (o : Outcome Answer Memory) → isEnd (entryAt journal (p .at) .entry) ≡ false →
       o ≡ performed journal (entryAt journal (p .at) .entry) m → q .at ≡ entryAt journal (p .at) .next → q .numbered ≡ p .numbered + 1 →
-      Puts out (p .end) (printed (rowOf (q .numbered) o)) (q .end) out′ → q .end ≤ p .end + 92 → p .end + 92 ≤ length out →
+      Puts out (p .end) (printed (rowOf (q .numbered) o)) (q .end) out′ → q .end ≤ p .end + rowSize → p .end + rowSize ≤ length out →
       Steps journal p m out q (o .after) out′
   unfolding perform printing
   carried-on q out′ o more does next counts puts short room =

@@ -1,7 +1,7 @@
 -- What a step and a run of a journal give, in the words of their contracts.
 use Prim.Native.Nat.{ℕ, _+_, _≤_}
 use mathlib.Core.Path.{_≡_}
-use mathlib.Core.List.{List}
+use mathlib.Core.List.{List, []}
 use lib.ListN.{length}
 use Rattle.rules.specs.declared.Entry.{Entry}
 use Rattle.rules.specs.declared.Entry.the-variants.{Fill}
@@ -9,11 +9,15 @@ use Rattle.rules.specs.Bytes.{lineSize}
 use Rattle.rules.specs.Table.{Memory}
 use Rattle.rules.specs.Journal.{Run, printedAll, entryAt, perform}
 use Rattle.runner.specs.declared.Progress.{Progress}
-use Rattle.runner.specs.Written.{Puts}
+use Rattle.rows.specs.Written.{rowSize, Puts}
 
 -- a fill's picture lies in the journal
 pub record PictureInside (journal : List ℕ) (entry : Entry) : Type 0 where
   pub inside : (key place : ℕ) → entry ≡ Fill key place → place + lineSize ≤ length journal
+
+-- a run that goes on: at the start of a piece of the journal, with so many records numbered before it
+abbrev pub goingOn : Memory → ℕ → Run
+goingOn m numbered = record { memory = m; at = 0; numbered = numbered; rows = [] }
 
 -- a run has come so far: memory and numbers are the run's, and its rows are written from the start of what the output was
 pub record Runs (run : Run) (out₀ : List ℕ) (q : Progress) (m : Memory) (out : List ℕ) : Type 0 where
@@ -27,5 +31,5 @@ pub record Runs (run : Run) (out₀ : List ℕ) (q : Progress) (m : Memory) (out
 pub record Steps (journal : List ℕ) (p : Progress) (m : Memory) (out : List ℕ) (q : Progress) (m′ : Memory) (out′ : List ℕ) : Type 0 where
   pub runs : (run : Run) (out₀ : List ℕ) → length out₀ ≡ length out → Runs run out₀ p m out →
       Runs (perform journal run (entryAt journal (run .at))) out₀ q m′ out′
-  pub room : q .end ≤ p .end + 92
+  pub room : q .end ≤ p .end + rowSize
   pub numbers : q .numbered ≤ p .numbered + 1

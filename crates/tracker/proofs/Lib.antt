@@ -1,4 +1,3 @@
-pub mod All
 pub mod Best
 pub mod Claiming
 pub mod First

@@ -1,49 +1,26 @@
-// What a pass over the table finds, and the order test.
+// What a pass over the table finds.
 ghost use mathlib.Core.Path.{_≡_};
-ghost use mathlib.Core.Bool.{true};
 ghost use Prim.Native.Nat.{_+_, _≤_, _<_};
 ghost use lib.ListN.{length};
 ghost use Rattle.rules.specs.Bytes.{recordAt, recordCount};
 ghost use Rattle.rules.specs.Pass.{best};
-ghost use Rattle.rules.specs.Table.{isUnlined, isLined, lineOf, isFilled, isZero, hasKey, keyRecord, colder, hotter, coldestLined, hottestUnlined, lookup, recordInOrder, inOrder};
+ghost use Rattle.rules.specs.Table.{isUnlined, hasKey, keyRecord, hotter, hottestUnlined, lookup};
 ghost use Rattle.rules.specs.Calls.{mostRecords};
-ghost use Rattle.tracker.specs.Claiming.{LinesFew, linedHeat, ColdestIs, IsClaim};
+ghost use Rattle.tracker.specs.Claiming.{ClaimFits, linedHeat, ColdestIs, IsClaim};
 ghost use Rattle.tracker.specs.Marks.{Unmarked, Marks, lowestUnmarked};
 ghost use Rattle.tracker.specs.Replacing.{FirstUnlined, ColdestYet, serves, IsReplaceable};
+use fields::is_filled;
+use fields::is_lined;
+use fields::is_unlined;
+use fields::line_of;
 use records::RECORD_SIZE;
 use records::record_at;
 use rules::Found;
-use rules::Gauge;
 use rules::Lookup;
 use rules::Record;
 
-// ---- what a record's state says
-
-fn is_unlined(r: Record) -> bool
-    ensures { λ b. ⌜ b ≡ isUnlined r ⌝ }
-{
-    r.state == 1
-}
-
-pub fn is_lined(r: Record) -> bool
-    ensures { λ b. ⌜ b ≡ isLined r ⌝ }
-{
-    1 < r.state
-}
-
-pub fn is_filled(r: Record) -> bool
-    ensures { λ b. ⌜ b ≡ isFilled r ⌝ }
-{
-    is_lined(r) && r.state % 2 == 1
-}
-
-// The line of a record that is on one.
-pub fn line_of(r: Record) -> usize
-    requires { ⌜ isLined r ≡ true ⌝ }
-    ensures { λ n. ⌜ n ≡ lineOf r ⌝ }
-{
-    ((r.state - 2) / 2) as usize
-}
+// The largest number.
+const LARGEST: u64 = 18446744073709551615;
 
 // ---- searches that stop at the first record that serves
 
@@ -67,6 +44,26 @@ pub fn key_record(table: &[u8], key: u64) -> Found
         i += 1;
     }
     Found::Nowhere
+}
+
+// A key, looked up.
+pub fn lookup(table: &[u8], key: u64) -> Lookup
+    ensures { λ r. ⌜ r ≡ lookup (recordAt (now (table .entry))) (recordCount (now (table .entry))) key ⌝ }
+{
+    match key_record(table, key) {
+        Found::Nowhere => Lookup::Untracked,
+        Found::At(i, r) => {
+            if is_lined(r) {
+                Lookup::Lined {
+                    place: i,
+                    line: line_of(r),
+                    filled: is_filled(r),
+                }
+            } else {
+                Lookup::Unlined
+            }
+        }
+    }
 }
 
 // ---- the record that an untracked key gets
@@ -153,39 +150,6 @@ pub fn replaceable(table: &[u8]) -> Replacements
 
 // ---- searches that see every record
 
-fn colder_lined(held: Found, i: usize, r: Record) -> Found
-    ensures { λ f. ⌜ f ≡ best isLined colder held i r ⌝ }
-{
-    if is_lined(r) {
-        match held {
-            Found::Nowhere => Found::At(i, r),
-            Found::At(_, coldest) => {
-                if r.heat < coldest.heat {
-                    Found::At(i, r)
-                } else {
-                    held
-                }
-            }
-        }
-    } else {
-        held
-    }
-}
-
-// The coldest record on a line.
-fn coldest_lined(table: &[u8]) -> Found
-    ensures { λ r. ⌜ r ≡ coldestLined (recordAt (now (table .entry))) (recordCount (now (table .entry))) ⌝ }
-{
-    let n = table.len() / RECORD_SIZE;
-    let mut held = Found::Nowhere;
-    let mut i = 0;
-    while i < n {
-        held = colder_lined(held, i, record_at(table, i));
-        i += 1;
-    }
-    held
-}
-
 fn hotter_unlined(held: Found, i: usize, r: Record) -> Found
     ensures { λ f. ⌜ f ≡ best isUnlined hotter held i r ⌝ }
 {
@@ -219,26 +183,6 @@ pub fn hottest_unlined(table: &[u8]) -> Found
     held
 }
 
-// A key, looked up.
-pub fn lookup(table: &[u8], key: u64) -> Lookup
-    ensures { λ r. ⌜ r ≡ lookup (recordAt (now (table .entry))) (recordCount (now (table .entry))) key ⌝ }
-{
-    match key_record(table, key) {
-        Found::Nowhere => Lookup::Untracked,
-        Found::At(i, r) => {
-            if is_lined(r) {
-                Lookup::Lined {
-                    place: i,
-                    line: line_of(r),
-                    filled: is_filled(r),
-                }
-            } else {
-                Lookup::Unlined
-            }
-        }
-    }
-}
-
 // ---- the line that a record gets
 
 // The lowest line that no record is on, or the number of lines; and the coldest record on a line.
@@ -251,22 +195,18 @@ pub struct Claim {
 fn lined_heat(r: Record) -> u64
     ensures { λ h. ⌜ h ≡ linedHeat r ⌝ }
 {
-    if is_lined(r) {
-        r.heat
-    } else {
-        18446744073709551615
-    }
+    if is_lined(r) { r.heat } else { LARGEST }
 }
 
-// Marks the line of every record, line n at n + 1, and finds the coldest record on a line. A record that is on none marks place 0.
-// Finds none, which is the number of records, also where every record on a line has the largest heat.
+// Marks the line of every record, line n at n + 1, and finds the coldest record on a line, or the number of records. A record that is
+// on none marks place 0.
 fn mark_lines(table: &[u8], used: &mut [u8]) -> usize
-    requires { ⌜ Unmarked (now used) × LinesFew (recordAt (now table)) (recordCount (now table)) (length (now used)) ⌝ }
+    requires { ⌜ Unmarked (now used) × ClaimFits (recordAt (now table)) (recordCount (now table)) (length (now used)) ⌝ }
     ensures { λ r. ⌜ Marks (recordAt (now (table .entry))) (recordCount (now (table .entry))) (now (used .exit)) × ColdestIs (recordAt (now (table .entry))) (recordCount (now (table .entry))) r ⌝ }
 {
     let n = table.len() / RECORD_SIZE;
     let mut best = n;
-    let mut least = 18446744073709551615;
+    let mut least = LARGEST;
     let mut i = 0;
     while i < n {
         let r = record_at(table, i);
@@ -298,7 +238,7 @@ fn lowest_unmarked(used: &[u8], lines: usize) -> usize
 
 // What a record without a line can claim, over marks that are all clear.
 fn claim_marking(table: &[u8], lines: usize, used: &mut [u8]) -> Claim
-    requires { ⌜ Unmarked (now used) × (lines < length (now used)) × LinesFew (recordAt (now table)) (recordCount (now table)) (length (now used)) ⌝ }
+    requires { ⌜ Unmarked (now used) × (lines < length (now used)) × ClaimFits (recordAt (now table)) (recordCount (now table)) (length (now used)) ⌝ }
     ensures { λ r. ⌜ IsClaim (recordAt (now (table .entry))) (recordCount (now (table .entry))) lines (r .line) (r .coldest) ⌝ }
 {
     let best = mark_lines(table, used);
@@ -311,14 +251,14 @@ fn claim_marking(table: &[u8], lines: usize, used: &mut [u8]) -> Claim
     } else {
         Claim {
             line,
-            coldest: coldest_lined(table),
+            coldest: Found::Nowhere,
         }
     }
 }
 
 // What a record without a line can claim, in one pass over the records and one over the lines. Few lines want few marks.
 pub fn claimable(table: &[u8], lines: usize) -> Claim
-    requires { ⌜ (lines < mostRecords) × LinesFew (recordAt (now table)) (recordCount (now table)) (lines + 1) ⌝ }
+    requires { ⌜ (lines < mostRecords) × ClaimFits (recordAt (now table)) (recordCount (now table)) (lines + 1) ⌝ }
     ensures { λ r. ⌜ IsClaim (recordAt (now (table .entry))) (recordCount (now (table .entry))) lines (r .line) (r .coldest) ⌝ }
 {
     if lines < 64 {
@@ -328,65 +268,4 @@ pub fn claimable(table: &[u8], lines: usize) -> Claim
         let mut many = [0u8; 1024];
         claim_marking(table, lines, &mut many)
     }
-}
-
-// ---- order
-
-fn is_zero(r: Record) -> bool
-    ensures { λ b. ⌜ b ≡ isZero r ⌝ }
-{
-    if r.key != 0 {
-        return false;
-    }
-    if r.heat != 0 {
-        return false;
-    }
-    if r.slack != 0 {
-        return false;
-    }
-    r.state == 0
-}
-
-fn record_in_order(r: Record, total: u64, lines: usize) -> bool
-    requires { ⌜ lines ≤ 1024 ⌝ }
-    ensures { λ b. ⌜ b ≡ recordInOrder total lines r ⌝ }
-{
-    if total < r.heat {
-        return false;
-    }
-    if 1 + 2 * (lines as u64) < r.state {
-        return false;
-    }
-    if 0 < r.state {
-        return true;
-    }
-    is_zero(r)
-}
-
-// Whether the table is in order, in one pass.
-pub fn in_order(table: &[u8], gauge: Gauge, lines: usize) -> bool
-    requires { ⌜ lines ≤ 1024 ⌝ }
-    ensures { λ b. ⌜ b ≡ inOrder (recordAt (now (table .entry))) (recordCount (now (table .entry))) lines gauge ⌝ }
-{
-    let total = gauge.total;
-    if 4294967295 < total {
-        return false;
-    }
-    if total < gauge.ceiling {
-        return false;
-    }
-    let n = table.len() / RECORD_SIZE;
-    let mut lined = 0;
-    let mut i = 0;
-    while i < n {
-        let r = record_at(table, i);
-        if !record_in_order(r, total, lines) {
-            return false;
-        }
-        if is_lined(r) {
-            lined += 1;
-        }
-        i += 1;
-    }
-    lined <= lines
 }

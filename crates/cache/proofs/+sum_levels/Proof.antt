@@ -21,7 +21,7 @@ use Rattle.cache.specs.Room.{LevelsFit}
 use Rattle.cache.proofs.sum_levels.Reads as reads
 use Rattle.cache.proofs.sum_levels.Kinds as kinds
 use Rattle.cache.proofs.+sum_levels.Lts-sum_levels as lts
-use Rattle.cache.proofs.level.Reads as level-reads
+use Rattle.fields.proofs.level.Reads as level-reads
 use Rattle.records.proofs.record_at.Reads as record-at-reads
 use Rattle.cache.proofs.+sum_levels.{statement}
 use Rattle.cache.proofs.+sum_levels.Tie.{close}

@@ -5,7 +5,7 @@ use borrow.Author.Needs.{needs}
 use Rattle.rules.specs.Answers.{numberOf}
 use Rattle.rules.specs.Calls.{unless, fillOutcome}
 use Rattle.rules.proofs.Verdicts.{fill-accepted}
-use Rattle.cache.proofs.Rooms.{order-fits}
+use Rattle.steps.proofs.Rooms.{order-fits}
 use Rattle.cache.proofs.fill.Statement.{statement}
 use Rattle.cache.proofs.fill.Tie as tie
 

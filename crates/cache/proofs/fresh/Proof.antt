@@ -2,7 +2,7 @@
 use borrow.Author.Needs.{needs}
 use Rattle.rules.specs.Table.{freshMemory, freshGauge}
 use Rattle.rules.specs.Calls.{verdict, sizesTest, unless, freshOutcome}
-use Rattle.cache.proofs.Checks.{fails, passes}
+use Rattle.rules.proofs.Branches.{fails, passes}
 use Rattle.cache.proofs.fresh.Statement.{statement}
 use Rattle.cache.proofs.fresh.Tie as tie
 

@@ -7,7 +7,7 @@ use Rattle.rules.specs.Steps.{levelledSum}
 use Rattle.rules.specs.Calls.{unless, levelledOutcome, lent}
 use Rattle.rules.proofs.Memories.{sizes-say}
 use Rattle.rules.proofs.Verdicts.{plain-accepted}
-use Rattle.cache.proofs.Rooms.{order-fits}
+use Rattle.steps.proofs.Rooms.{order-fits}
 use Rattle.cache.proofs.levelled_sum.Statement.{statement}
 use Rattle.cache.proofs.levelled_sum.Tie as tie
 

@@ -6,7 +6,7 @@ use borrow.Author.Needs.{needs}
 use Rattle.rules.specs.Answers.{numberOf}
 use Rattle.rules.specs.Calls.{unless, readOutcome}
 use Rattle.rules.proofs.Verdicts.{read-accepted}
-use Rattle.cache.proofs.Rooms.{order-fits}
+use Rattle.steps.proofs.Rooms.{order-fits}
 use Rattle.cache.proofs.read.Statement.{statement}
 use Rattle.cache.proofs.read.Tie as tie
 

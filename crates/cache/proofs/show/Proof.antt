@@ -11,7 +11,7 @@ use Rattle.rules.specs.Table.{places, size}
 use Rattle.rules.specs.Steps.{shownLine}
 use Rattle.rules.specs.Calls.{unless, showLine, lent}
 use Rattle.rules.proofs.Verdicts.{plain-accepted}
-use Rattle.cache.proofs.Rooms.{order-fits}
+use Rattle.steps.proofs.Rooms.{order-fits}
 use Rattle.cache.proofs.Lined.{IsOn, lined-at, without-line}
 use Rattle.cache.proofs.show.Statement.{statement}
 use Rattle.cache.proofs.show.Tie as tie

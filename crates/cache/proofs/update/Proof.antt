@@ -6,7 +6,7 @@ use borrow.Author.Needs.{needs}
 use Rattle.rules.specs.Answers.{numberOf}
 use Rattle.rules.specs.Calls.{unless, updateOutcome}
 use Rattle.rules.proofs.Verdicts.{update-accepted}
-use Rattle.cache.proofs.Rooms.{order-fits}
+use Rattle.steps.proofs.Rooms.{order-fits}
 use Rattle.cache.proofs.update.Statement.{statement}
 use Rattle.cache.proofs.update.Tie as tie
 

@@ -12,7 +12,7 @@ get-u64-requires-2 c κs = search needs
 
 returns : tie.Need-returns
 unfolding gaugeAt
-returns c = cc
+returns c = rw (c .before .get-u64 .ensures, c .get-u642 .ensures)
 
 pub gauge-at-spec : {M : Type 1} → statement M
 gauge-at-spec = tie.close (tie.spec get-u64-requires get-u64-requires-2 returns)

@@ -16,7 +16,10 @@ same-length c = search needs
 
 returns : tie.Need-returns
 unfolding putGauge
-returns c = cc
+returns c =
+    let ceiling = c .before .before in
+    let total = ceiling .before .before .before .before in
+    rw (ceiling .put-u642 .ensures, total .put-u64 .ensures)
 
 pub put-gauge-spec : {M : Type 1} → statement M
 put-gauge-spec = tie.close (tie.spec put-u64-requires put-u64-requires-2 same-length returns)

@@ -25,7 +25,7 @@ add-t3 c = search needs
 
 returns-3 : tie.Need-returns-3
 unfolding entryAt decoded
-returns-3 c = rw (lt-leb _ _ (c .before .before .if1 .left), le-ltb _ _ (c .before .if2 .left)) (cc)
+returns-3 c = rw (lt-leb _ _ (c .before .before .if1 .left), le-ltb _ _ (c .before .if2 .left), c .whole-entry .ensures)
 
 pub decode-spec : {M : Type 1} → statement M
 decode-spec = tie.close (tie.spec returns sub-if2 returns-2 whole-entry-requires add-t3 returns-3)

@@ -18,7 +18,7 @@ zeros-requires-2 c κs = search needs
 
 returns : tie.Need-returns
 unfolding gapsZero
-returns c = cc
+returns c = rw (c .before .zeros .ensures, c .zeros2 .ensures)
 
 pub gaps-zero-spec : {M : Type 1} → statement M
 gaps-zero-spec = tie.close (tie.spec add-zeros zeros-requires add-zeros-2 zeros-requires-2 returns)

@@ -29,7 +29,16 @@ of-form-requires c κs = search needs
 
 returns : tie.Need-returns
 unfolding wholeEntry kindAt pictureZero weightZero keyZero keyAt picturePlace
-returns c = rw (c .of-form .ensures, c .before .if1 .taken) (cc)
+returns c =
+    let key = c .before .before in
+    let weight = key .before in
+    rw (
+      c .of-form .ensures,
+      c .before .if1 .taken,
+      weight .before .gaps-zero .ensures,
+      weight .weight-at .ensures,
+      key .get-u64 .ensures,
+    )
 
 add-zeros : tie.Need-add-zeros
 add-zeros c = search needs
@@ -42,14 +51,36 @@ of-form-requires-2 c κs = search needs
 
 returns-2 : tie.Need-returns-2
 unfolding wholeEntry kindAt pictureZero weightZero keyZero keyAt picturePlace
-returns-2 c = rw (c .of-form2 .ensures, c .before .if2 .taken) (cc)
+returns-2 c =
+    let blank = c .before .before in
+    let key = blank .before .before in
+    let weight = key .before in
+    rw (
+      c .of-form2 .ensures,
+      c .before .if2 .taken,
+      blank .zeros .ensures,
+      weight .before .gaps-zero .ensures,
+      weight .weight-at .ensures,
+      key .get-u64 .ensures,
+    )
 
 of-form-requires-3 : tie.Need-of-form-requires-3
 of-form-requires-3 c κs = search needs
 
 returns-3 : tie.Need-returns-3
 unfolding wholeEntry kindAt pictureZero weightZero keyZero keyAt picturePlace
-returns-3 c = rw (c .of-form3 .ensures, c .before .if3 .taken) (cc)
+returns-3 c =
+    let blank = c .before .before .before in
+    let key = blank .before .before in
+    let weight = key .before in
+    rw (
+      c .of-form3 .ensures,
+      c .before .if3 .taken,
+      blank .zeros .ensures,
+      weight .before .gaps-zero .ensures,
+      weight .weight-at .ensures,
+      key .get-u64 .ensures,
+    )
 
 of-form-requires-4 : tie.Need-of-form-requires-4
 of-form-requires-4 c κs = search needs
@@ -57,13 +88,19 @@ of-form-requires-4 c κs = search needs
 returns-4 : tie.Need-returns-4
 unfolding wholeEntry kindAt pictureZero weightZero keyZero keyAt picturePlace
 returns-4 c =
+    let blank = c .before .before .before in
+    let key = blank .before .before in
+    let weight = key .before in
     rw (
       c .of-form4 .ensures,
       ne-eqb _ 1 (c .before .before .if2 .left),
       ne-eqb _ 2 (c .before .if3 .left),
-      ne-eqb _ 3 (c .before .before .before .before .if1 .left),
+      ne-eqb _ 3 (blank .before .if1 .left),
+      blank .zeros .ensures,
+      weight .before .gaps-zero .ensures,
+      weight .weight-at .ensures,
+      key .get-u64 .ensures,
     )
-    (cc)
 
 pub whole-entry-spec : {M : Type 1} → statement M
 whole-entry-spec =

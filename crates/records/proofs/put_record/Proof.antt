@@ -43,7 +43,12 @@ same-length c = search needs
 
 returns : tie.Need-returns
 unfolding putRecord
-returns c = cc
+returns c =
+    let state = c .before .before in
+    let slack = state .before .before .before .before in
+    let heat = slack .before .before .before .before in
+    let key = heat .before .before .before .before in
+    rw (state .put-u644 .ensures, slack .put-u643 .ensures, heat .put-u642 .ensures, key .put-u64 .ensures)
 
 pub put-record-spec : {M : Type 1} → statement M
 put-record-spec =

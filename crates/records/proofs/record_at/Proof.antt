@@ -39,7 +39,10 @@ get-u64-requires-4 c κs = omega arith
 
 returns : tie.Need-returns
 unfolding recordAt
-returns c = cc
+returns c =
+    let slack = c .before in
+    let heat = slack .before in
+    rw (heat .before .get-u64 .ensures, heat .get-u642 .ensures, slack .get-u643 .ensures, c .get-u644 .ensures)
 
 pub record-at-spec : {M : Type 1} → statement M
 record-at-spec =

@@ -18,9 +18,6 @@ record-at-requires : tie.Need-record-at-requires
 unfolding recordCount
 record-at-requires c κs = search needs
 
-coldest-lined-requires : tie.Need-coldest-lined-requires
-coldest-lined-requires c κs = search needs
-
 same-length : tie.Need-same-length
 same-length c = search needs
 
@@ -37,13 +34,17 @@ unfolding recordCount
 returns c =
     let line = c .before .before in
     let coldest = line .before .before .before .before .mark-lines .ensures .1 in
-    record { line-is = line-found line; coldest-is = rw (c .record-at .ensures) (sym (coldest .holds (c .before .if1 .taken))) }
+    record { line-is = line-found line; coldest-is = rw (c .record-at .ensures) (sym (coldest .found (c .before .if1 .taken))) }
 
 same-length-2 : tie.Need-same-length-2
 same-length-2 c = search needs
 
 returns-2 : tie.Need-returns-2
-returns-2 c = record { line-is = line-found (c .before .before); coldest-is = c .coldest-lined .ensures }
+unfolding recordCount
+returns-2 c =
+    let line = c .before in
+    let coldest = line .before .before .before .before .mark-lines .ensures .1 in
+    record { line-is = line-found line; coldest-is = sym (coldest .missing (c .if1 .left)) }
 
 pub claim-marking-spec : {M : Type 1} → statement M
 claim-marking-spec =
@@ -52,7 +53,6 @@ claim-marking-spec =
     mark-lines-requires
     lowest-unmarked-requires
     record-at-requires
-    coldest-lined-requires
     same-length
     returns
     same-length-2

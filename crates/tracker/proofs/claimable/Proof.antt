@@ -11,7 +11,7 @@ slice-aggregate-claim-marking c = search needs
 claim-marking-requires : tie.Need-claim-marking-requires
 claim-marking-requires c κs =
     let start = c .before .before .before in
-    (zeros-unmarked 64, search needs, record { state = λ i below. let most = start .pre .1 .state i below in omega arith })
+    (zeros-unmarked 64, search needs, record { state = λ i below. let most = start .pre .1 .state i below in omega arith; heat = start .pre .1 .heat })
 
 slice-aggregate-claim-marking-2 : tie.Need-slice-aggregate-claim-marking-2
 slice-aggregate-claim-marking-2 c = search needs
@@ -19,7 +19,7 @@ slice-aggregate-claim-marking-2 c = search needs
 claim-marking-requires-2 : tie.Need-claim-marking-requires-2
 claim-marking-requires-2 c κs =
     let start = c .before .before .before in
-    (zeros-unmarked 1024, search needs, record { state = λ i below. let most = start .pre .1 .state i below in omega arith })
+    (zeros-unmarked 1024, search needs, record { state = λ i below. let most = start .pre .1 .state i below in omega arith; heat = start .pre .1 .heat })
 
 returns : tie.Need-returns
 returns c = search needs

@@ -1,4 +1,5 @@
 -- `tracker::hotter_unlined` meets its contract: each way through the code is one of the step's. Assumes nothing.
+use mathlib.Core.Path.{sym, _∙_}
 use borrow.Author.Needs.{needs}
 use borrow.Author.Tests.{lt-ltb, le-ltb}
 use Rattle.rules.specs.Table.{isUnlined, hotter}
@@ -16,20 +17,28 @@ enum-known-held : tie.Need-enum-known-held
 enum-known-held c = search needs
 
 returns : tie.Need-returns
-returns c = best-alone isUnlined hotter _ _ _ (c .enum-told .given .1) (cc)
+returns c =
+    let asked = c .before .before in
+    best-alone isUnlined hotter _ _ _ (c .enum-told .given .1) (sym (asked .before .is-unlined .ensures) ∙ asked .if1 .taken)
 
 returns-2 : tie.Need-returns-2
 unfolding hotter
 returns-2 c =
-    best-beats isUnlined hotter _ _ _ _ _ (c .before .before .before .before .held .given .1) (cc) (lt-ltb _ _ (c .if2 .taken))
+    let told = c .before .before .before .before in
+    let asked = told .before .before in
+    let unlined = sym (asked .before .is-unlined .ensures) ∙ asked .if1 .taken in
+    best-beats isUnlined hotter _ _ _ _ _ (told .held .given .1) unlined (lt-ltb _ _ (c .if2 .taken))
 
 returns-3 : tie.Need-returns-3
 unfolding hotter
 returns-3 c =
-    best-stays isUnlined hotter _ _ _ _ _ (c .before .before .before .before .held .given .1) (cc) (le-ltb _ _ (c .if2 .left))
+    let told = c .before .before .before .before in
+    let asked = told .before .before in
+    let unlined = sym (asked .before .is-unlined .ensures) ∙ asked .if1 .taken in
+    best-stays isUnlined hotter _ _ _ _ _ (told .held .given .1) unlined (le-ltb _ _ (c .if2 .left))
 
 returns-4 : tie.Need-returns-4
-returns-4 c = best-fails isUnlined hotter _ _ _ (cc)
+returns-4 c = best-fails isUnlined hotter _ _ _ (sym (c .before .is-unlined .ensures) ∙ c .if1 .left)
 
 pub hotter-unlined-spec : {M : Type 1} → statement M
 hotter-unlined-spec =

@@ -1,7 +1,7 @@
 -- `tracker::key_record` meets its contract: the search stops at the first record with the key, and the definition finds none before it.
 -- The measure is what is left of the table. Assumes nothing.
 use Prim.Native.Nat.{_≤_, _-_}
-use mathlib.Core.Path.{_≡_, refl, sym}
+use mathlib.Core.Path.{_≡_, refl, sym, _∙_}
 use native.Mathlib.Omega.{arith}
 use borrow.Author.Needs.{needs}
 use Rattle.rules.specs.declared.Found.the-variants.{Nowhere}
@@ -34,7 +34,7 @@ unfolding keyRecord recordCount
 returns c =
     let read = c .before .before in
     let at = read .before .before in
-    found-here (hasKey _) _ _ _ (at .loop .inv .1) (read .record-at .ensures) _ (read .before .loop-test .taken) (cc)
+    found-here (hasKey _) _ _ _ (at .loop .inv .1) (read .record-at .ensures) _ (read .before .loop-test .taken) (sym (c .before .has-key .ensures) ∙ c .if1 .taken)
 
 add-i : tie.Need-add-i Inv-loop μ-loop
 add-i c = search needs
@@ -47,7 +47,7 @@ unfolding keyRecord
 loop-again c =
     let read = c .before .before in
     let at = read .before .before in
-    (search needs, not-here (hasKey _) _ _ _ (at .loop .inv .1) (read .record-at .ensures) (cc))
+    (search needs, not-here (hasKey _) _ _ _ (at .loop .inv .1) (read .record-at .ensures) (sym (c .before .has-key .ensures) ∙ c .if1 .left))
 
 returns-2 : tie.Need-returns-2 Inv-loop μ-loop
 unfolding recordCount

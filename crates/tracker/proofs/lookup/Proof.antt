@@ -1,4 +1,5 @@
 -- `tracker::lookup` meets its contract: the arms are the definition's, at the record that `key_record` found. Assumes nothing.
+use mathlib.Core.Path.{sym, _∙_}
 use borrow.Author.Needs.{needs}
 use Rattle.rules.specs.Table.{lookup, lookedUp}
 use Rattle.tracker.proofs.lookup.Statement.{statement}
@@ -17,7 +18,7 @@ is-lined-requires : tie.Need-is-lined-requires
 is-lined-requires c κs = search needs
 
 line-of-requires : tie.Need-line-of-requires
-line-of-requires c κs = cc
+line-of-requires c κs = sym (c .before .is-lined .ensures) ∙ c .if1 .taken
 
 is-filled-requires : tie.Need-is-filled-requires
 is-filled-requires c κs = search needs
@@ -31,7 +32,14 @@ unfolding lookup lookedUp
 returns-2 c =
     let lined = c .before .before .before in
     let at = lined .before .before in
-    rw (← at .before .before .key-record .ensures, at .i .given .1, ← lined .is-lined .ensures, c .before .before .if1 .taken) (cc)
+    rw (
+      ← at .before .before .key-record .ensures,
+      at .i .given .1,
+      ← lined .is-lined .ensures,
+      c .before .before .if1 .taken,
+      c .before .line-of .ensures,
+      c .is-filled .ensures,
+    )
 
 returns-3 : tie.Need-returns-3
 unfolding lookup lookedUp

@@ -9,9 +9,9 @@ use borrow.Author.Needs.{needs}
 use lib.ListN.{length, length-set}
 use Rattle.rules.specs.Bytes.{recordAt, recordCount}
 use Rattle.tracker.specs.Marks.{Marks}
-use Rattle.tracker.specs.Claiming.{Coldest}
+use Rattle.tracker.specs.Claiming.{largest, Coldest}
 use Rattle.tracker.proofs.Marks.{marks-none, marks-more}
-use Rattle.tracker.proofs.Claiming.{coldest-none, coldest-moves, coldest-stays}
+use Rattle.tracker.proofs.Claiming.{coldest-none, coldest-moves, coldest-stays, coldest-is}
 use Rattle.tracker.proofs.mark_lines.Statement.{statement}
 use Rattle.tracker.proofs.mark_lines.Tie as tie
 
@@ -19,7 +19,7 @@ abbrev Inv-loop : tie.InvT-loop
 Inv-loop table used₀ n best₀ least₀ i₀ used best least i =
     (i ≤ n)
     × (length used ≡ length used₀)
-    × (least ≤ 18446744073709551615)
+    × (least ≤ largest)
     × Marks (recordAt table) i used
     × Coldest (recordAt table) n i best least
 
@@ -27,7 +27,7 @@ abbrev μ-loop : tie.MeasureT-loop
 μ-loop table used₀ n best₀ least₀ i₀ used best least i = n - i
 
 loop-holds : tie.Need-loop-holds Inv-loop μ-loop
-loop-holds c = (search needs, refl, search needs, marks-none _ _ (c .before .before .pre .0), coldest-none _ _ _)
+loop-holds c = (search needs, refl, search needs, marks-none _ _ (c .before .before .pre .0), coldest-none _ _)
 
 record-at-requires : tie.Need-record-at-requires Inv-loop μ-loop
 unfolding recordCount
@@ -63,7 +63,7 @@ loop-again c =
       ⊎-elim (λ w. omega (arith, w .2, w .0 .taken)) (λ w. omega (arith, w .2)) (c .if1 .came),
       rw (add-one, is) (marks-more _ _ _ marks),
       ⊎-elim
-          (λ w. rw (w .1, w .2, heat) (coldest-moves _ _ _ _ _ coldest (rw heat at (w .0 .taken)) fits))
+          (λ w. rw (w .1, w .2, heat) (coldest-moves _ _ _ _ _ coldest (search needs) (rw heat at (w .0 .taken)) fits))
           (λ w. rw (w .1, w .2) (coldest-stays _ _ _ _ _ coldest (rw heat at (w .0 .left))))
           (c .if1 .came),
     )
@@ -76,7 +76,7 @@ unfolding recordCount
 returns c =
     let at = c .before in
     let e : at .loop .i ≡ recordCount (at .before .before .before .args .table .now) = omega arith in
-    (rw (← e) (at .loop .inv .3), record { holds = λ below. rw (← e) (at .loop .inv .4 .holds below) })
+    (rw (← e) (at .loop .inv .3), coldest-is _ _ _ _ (rw e at (at .loop .inv .4)) (at .before .before .before .pre .1 .heat))
 
 pub mark-lines-spec : {M : Type 1} → statement M
 mark-lines-spec =

@@ -1,0 +1,64 @@
+-- `steps::read_steps` meets its contract: its two steps are the definition's. An aging keeps the room that the steps want, and
+-- the total before it grows is at most L. Assumes nothing.
+use Prim.Native.Nat.{ℕ, _+_, _≤_}
+use mathlib.Core.Path.{subst, sym}
+use mathlib.Core.Bool.{Bool, true, false}
+use native.Mathlib.Omega.{arith}
+use borrow.Author.Needs.{needs}
+use lib.Dec.{ltb}
+use denote.Ref.{now}
+use Rattle.rules.specs.Pass.{if_then_else_}
+use Rattle.rules.specs.Table.{Memory, mostTotal, halfDown, places, size, withGauge}
+use Rattle.rules.specs.Steps.{aged, agedGauge, makeRoom, grown, readSteps}
+use Rattle.rules.specs.Calls.{lent}
+use Rattle.rules.proofs.Words.{IsBytes}
+use Rattle.lines.specs.Room.{LinesFit}
+use Rattle.steps.specs.Room.{HeatsFit}
+use Rattle.steps.proofs.Rooms.{lines-gauge, aged-heats, aged-lines}
+use Rattle.steps.proofs.read_steps.Statement.{statement}
+use Rattle.steps.proofs.read_steps.Tie as tie
+
+make-room-requires : tie.Need-make-room-requires
+make-room-requires c κs = search needs
+
+abbrev Roomy : Memory → Type 0
+Roomy m = (m .gauge .total ≤ mostTotal) × HeatsFit m × LinesFit m
+
+room-made : (w : ℕ) (m : Memory) → IsBytes (m .table) → Roomy m → Roomy (makeRoom w m)
+unfolding makeRoom aged agedGauge withGauge halfDown
+room-made w m bytes (total, heats, lines) = go (ltb mostTotal (m .gauge .total + w))
+  where
+    go : (b : Bool) → Roomy (if b then aged m else m)
+    go true = (omega arith, aged-heats m bytes heats, aged-lines m bytes lines)
+    go false = (total, heats, lines)
+
+roomy : (c : tie.After-make-room) →
+    Roomy (lent (c .make-room .last .0) (c .make-room .result) (now (c .before .before .before .before .args .lines)))
+roomy c =
+    let known = c .before .before .before in
+    let bytes : IsBytes (now (known .before .args .table)) = record { below = λ i. known .slice-known .given i .fits } in
+    let (total, weight, heats, lines) = known .before .pre in
+    subst Roomy (sym (c .make-room .ensures)) (room-made _ _ bytes (total, heats, lines))
+
+add-t10 : tie.Need-add-t10
+add-t10 c = let made = c .before .before .before in omega (arith, roomy made .0, made .before .before .before .before .pre .1)
+
+read-counted-requires : tie.Need-read-counted-requires
+unfolding places size withGauge
+read-counted-requires c κs =
+    let made = c .before .before .before .before in
+    let (total, heats, lines) = roomy made in
+    (made .before .before .before .before .pre .1, record { ceiling = heats .ceiling; heat = heats .heat }, lines-gauge _ _ lines)
+
+same-length : tie.Need-same-length
+same-length c = search needs
+
+returns : tie.Need-returns
+unfolding readSteps grown withGauge
+returns c =
+    let made = c .before .before .before .before .before .before .before in
+    rw (← made .make-room .ensures) (c .before .before .read-counted .ensures)
+
+pub read-steps-spec : {M : Type 1} → statement M
+read-steps-spec =
+    tie.close (tie.spec make-room-requires add-t10 read-counted-requires same-length returns)

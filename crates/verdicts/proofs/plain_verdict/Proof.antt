@@ -1,0 +1,15 @@
+-- `verdicts::plain_verdict` meets its contract: a test that always passes changes no verdict. Assumes nothing.
+use borrow.Author.Needs.{needs}
+use Rattle.rules.specs.Calls.{verdict, plainVerdict}
+use Rattle.verdicts.proofs.plain_verdict.Statement.{statement}
+use Rattle.verdicts.proofs.plain_verdict.Tie as tie
+
+checked-requires : tie.Need-checked-requires
+checked-requires c κs = search needs
+
+returns : tie.Need-returns
+unfolding plainVerdict verdict
+returns c = c .checked .ensures
+
+pub plain-verdict-spec : {M : Type 1} → statement M
+plain-verdict-spec = tie.close (tie.spec checked-requires returns)
