@@ -64,13 +64,6 @@ module _ (test : Record → Bool) (f : ℕ → Record) where
   pub first-nowhere : (n : ℕ) → firstOf test f n ≡ Nowhere → (i : ℕ) → i < n → test (f i) ≡ false
   first-nowhere n e = rw e at (first-is n)
 
-  pub first-none : (n : ℕ) → ((i : ℕ) → i < n → test (f i) ≡ false) → firstOf test f n ≡ Nowhere
-  first-none n none = go (firstOf test f n) (first-is n)
-    where
-      go : (x : Found) → First n x → x ≡ Nowhere
-      go Nowhere h = refl
-      go (At i r) h = clash (h .passes) (ap test (h .is) ∙ none i (h .inside))
-
   -- once found, it stays
   pub first-found : (n i : ℕ) → i < n → test (f i) ≡ true → ((j : ℕ) → j < i → test (f j) ≡ false) → firstOf test f n ≡ At i (f i)
   first-found n i below passes before = go (firstOf test f n) (first-is n)
@@ -187,10 +180,6 @@ module _ (test : Record → Bool) (f : ℕ → Record) where
 
   pub none-any : (n : ℕ) → anyOf test f n ≡ false → (i : ℕ) → i < n → test (f i) ≡ false
   none-any n e = rw e at (any-is n)
-
-  -- some record passes
-  pub any-some : (n : ℕ) → anyOf test f n ≡ true → (i : ℕ) × (i < n) × (test (f i) ≡ true)
-  any-some n e = rw e at (any-is n)
 
 -- ---- the lowest number at which a test fails
 module _ (test : ℕ → Bool) where

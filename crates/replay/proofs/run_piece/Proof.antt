@@ -1,15 +1,15 @@
 -- `replay::run_piece` meets its contract: what was read is at most 819 records, which is the room that the run wants, and its rows end
 -- within the output. Assumes nothing.
-use Prim.Native.Nat.{ℕ, _≤_}
+use Prim.Native.Nat.{ℕ, _*_, _≤_}
 use mathlib.Core.List.{List}
 use native.Mathlib.Omega.{arith}
 use borrow.Author.Needs.{needs}
 use lib.ListN.{length, take, length-take}
-use Rattle.rules.specs.Journal.{entryCount}
+use Rattle.rules.specs.Journal.{entrySize, entryCount}
 use Rattle.replay.proofs.run_piece.Statement.{statement}
 use Rattle.replay.proofs.run_piece.Tie as tie
 
-few-entries : (n : ℕ) (piece : List ℕ) → length piece ≤ 65520 → entryCount (take n piece) ≤ 819
+few-entries : (n : ℕ) (piece : List ℕ) → length piece ≤ entrySize * 819 → entryCount (take n piece) ≤ 819
 unfolding entryCount
 few-entries n piece short = simp length-take (omega arith)
 
