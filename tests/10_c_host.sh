@@ -3,13 +3,7 @@
 set -eu
 cd "$(dirname "$0")/.."
 
-library=target/staticlib/libcot.a
-out=target/tests
-mkdir -p "$out"
-if [ ! -f "$library" ]; then
-    echo "10_c_host: $library is not there; building it takes a while"
-    rt staticlib cot
-fi
+. tests/library
 
 printf '#include "cot.h"\n' >"$out/header.c"
 printf '#include "cot.h"\n' >"$out/header.cpp"

@@ -5,13 +5,7 @@
 set -eu
 cd "$(dirname "$0")/.."
 
-library=target/staticlib/libcot.a
-out=target/tests
-mkdir -p "$out"
-if [ ! -f "$library" ]; then
-    echo "20_compare: $library is not there; building it takes a while"
-    rt staticlib cot
-fi
+. tests/library
 
 rustc -O --edition 2021 -D warnings -L native=target/staticlib \
     -o "$out/compare" tests/compare/main.rs

@@ -1,6 +1,7 @@
 //! Group (a): single calls on damaged memory.
 
 use crate::harness::{both, Memory};
+use crate::lists::STEPS;
 use crate::model::{
     empty_on, filled_on, gauge_of, not_in_order, put_gauge, put_number, put_records, records_of,
     wrong_picture, wrong_sizes, wrong_weight, Call, Model, Path, Record,
@@ -33,8 +34,9 @@ pub const ANSWERS: [&str; 20] = [
     "age aged",
 ];
 
-/// Every step and every part of a cause (alone), and every pair of causes. Each must come.
-pub const STEPS: [&str; 43] = [
+/// Every part of a cause (alone), every pair of causes, the agings of a read and doubled classes. With
+/// the steps of the lists, each must come.
+pub const CAUSES: [&str; 23] = [
     "1: table not whole records",
     "1: K outside 1 to 1,024",
     "1: lines not whole",
@@ -56,26 +58,6 @@ pub const STEPS: [&str; 43] = [
     "3 and 6",
     "read 1: not aged",
     "read 1: aged first",
-    "read 2: tracked",
-    "read 3: free record",
-    "read 4: ceiling raised",
-    "read 4: victim at ceiling",
-    "read 4: victim under ceiling",
-    "read 4: victim first among equals",
-    "read 5: has a line",
-    "read 5: unused line",
-    "read 5: no lines at all",
-    "read 5: takes the coldest's line",
-    "read 5: coldest first among equals",
-    "read 5: equal heat",
-    "read 5: colder",
-    "update: heat stops at 0",
-    "update: heat falls by w",
-    "update: no line",
-    "update: line kept",
-    "update: line kept, equal heat",
-    "update: line moves",
-    "update: hottest first among equals",
     "doubled key",
     "doubled line",
 ];
@@ -220,7 +202,7 @@ pub fn run(seed: u64, calls: u64, model: &Model, counts: &mut Counts) -> Result<
         count_pairs(&case, found, counts);
         count_inputs(&case, found, counts);
     }
-    for name in ANSWERS.iter().chain(&STEPS).chain(&INPUTS) {
+    for name in ANSWERS.iter().chain(&CAUSES).chain(&STEPS).chain(&INPUTS) {
         if counts.of(name) == 0 {
             return Err(format!(
                 "seed {seed}, {calls} single calls: '{name}' never came"
