@@ -13,6 +13,8 @@ use rules::Gauge;
 
 // The size of a host's gauge, in bytes.
 pub const GAUGE_SIZE: usize = 16;
+// Where its ceiling lies, after the total.
+const CEILING_AT: usize = 8;
 
 fn gauge_at(bytes: &[u8]) -> Gauge
     requires { ⌜ length (now bytes) ≡ gaugeSize ⌝ }
@@ -20,7 +22,7 @@ fn gauge_at(bytes: &[u8]) -> Gauge
 {
     Gauge {
         total: get_u64(bytes, 0),
-        ceiling: get_u64(bytes, 8),
+        ceiling: get_u64(bytes, CEILING_AT),
     }
 }
 
@@ -29,7 +31,7 @@ fn put_gauge(bytes: &mut [u8], g: Gauge)
     ensures { λ _. ⌜ now (bytes .exit) ≡ putGauge (now (bytes .entry)) g ⌝ }
 {
     put_u64(bytes, 0, g.total);
-    put_u64(bytes, 8, g.ceiling);
+    put_u64(bytes, CEILING_AT, g.ceiling);
 }
 
 // The number of an answer.

@@ -12,7 +12,7 @@ use lib.Dec.{lit<}
 use lib.Seq.{getD-drop, take-at, drop-at, length-take-le, take-append-le, drop-append-le, drop-append-add, drop-drop}
 use Rattle.rules.specs.declared.Record.{Record}
 use Rattle.rules.specs.declared.Gauge.{Gauge}
-use Rattle.rules.specs.Bytes.{get64, put64, recordSize, recordAt, putRecord, recordCount, lineSize, lineAt, putLine, lineCount, gaugeSize, gaugeAt, putGauge}
+use Rattle.rules.specs.Bytes.{get64, put64, recordSize, heatPlace, slackPlace, statePlace, ceilingPlace, recordAt, putRecord, recordCount, lineSize, lineAt, putLine, lineCount, gaugeSize, gaugeAt, putGauge}
 use Rattle.rules.specs.Table.{changeAll}
 use Rattle.rules.proofs.Words.{IsBytes, length-put64, get-put64-same, get-put64-other, put64-bytes, get64-below, put-get64}
 
@@ -58,49 +58,49 @@ record-inside t i h = omega arith
 
 -- four numbers put one after the other from a place
 abbrev row : List ℕ → ℕ → ℕ → ℕ → ℕ → ℕ → List ℕ
-row t a k h s e = put64 (put64 (put64 (put64 t a k) (a + 8) h) (a + 16) s) (a + 24) e
+row t a k h s e = put64 (put64 (put64 (put64 t a k) (a + heatPlace) h) (a + slackPlace) s) (a + statePlace) e
 
-row-elsewhere : (t : List ℕ) (a k h s e b : ℕ) → (b + 8 ≤ a) ⊎ (a + 32 ≤ b) → get64 (row t a k h s e) b ≡ get64 t b
+row-elsewhere : (t : List ℕ) (a k h s e b : ℕ) → (b + 8 ≤ a) ⊎ (a + recordSize ≤ b) → get64 (row t a k h s e) b ≡ get64 t b
 row-elsewhere t a k h s e b apart =
-    let past : (x : ℕ) → x + 8 ≤ 32 → (b + 8 ≤ a + x) ⊎ (a + x + 8 ≤ b) =
+    let past : (x : ℕ) → x + 8 ≤ recordSize → (b + 8 ≤ a + x) ⊎ (a + x + 8 ≤ b) =
     λ x small. ⊎-elim (λ l. inl (omega arith)) (λ l. inr (omega arith)) apart in
     rw (
-      get-put64-other _ (a + 24) e b (past 24 (omega arith)),
-      get-put64-other _ (a + 16) s b (past 16 (omega arith)),
-      get-put64-other _ (a + 8) h b (past 8 (omega arith)),
+      get-put64-other _ (a + statePlace) e b (past statePlace (omega arith)),
+      get-put64-other _ (a + slackPlace) s b (past slackPlace (omega arith)),
+      get-put64-other _ (a + heatPlace) h b (past heatPlace (omega arith)),
     )
     (get-put64-other t a k b (⊎-elim (λ l. inl l) (λ l. inr (omega arith)) apart))
 
-module _ (t : List ℕ) (a k h s e : ℕ) (room : a + 32 ≤ length t) where
+module _ (t : List ℕ) (a k h s e : ℕ) (room : a + recordSize ≤ length t) where
   row-key : k < 2 ^ 64 → get64 (row t a k h s e) a ≡ k
   row-key fits =
       rw (
-        get-put64-other _ (a + 24) e a (inl (omega arith)),
-        get-put64-other _ (a + 16) s a (inl (omega arith)),
-        get-put64-other _ (a + 8) h a (inl (omega arith)),
+        get-put64-other _ (a + statePlace) e a (inl (omega arith)),
+        get-put64-other _ (a + slackPlace) s a (inl (omega arith)),
+        get-put64-other _ (a + heatPlace) h a (inl (omega arith)),
       )
       (get-put64-same t a k (omega arith) fits)
 
-  row-heat : h < 2 ^ 64 → get64 (row t a k h s e) (a + 8) ≡ h
+  row-heat : h < 2 ^ 64 → get64 (row t a k h s e) (a + heatPlace) ≡ h
   row-heat fits =
       rw (
-        get-put64-other _ (a + 24) e (a + 8) (inl (omega arith)),
-        get-put64-other _ (a + 16) s (a + 8) (inl (omega arith)),
+        get-put64-other _ (a + statePlace) e (a + heatPlace) (inl (omega arith)),
+        get-put64-other _ (a + slackPlace) s (a + heatPlace) (inl (omega arith)),
       )
-      (get-put64-same _ (a + 8) h (simp length-put64 (omega arith)) fits)
+      (get-put64-same _ (a + heatPlace) h (simp length-put64 (omega arith)) fits)
 
-  row-slack : s < 2 ^ 64 → get64 (row t a k h s e) (a + 16) ≡ s
+  row-slack : s < 2 ^ 64 → get64 (row t a k h s e) (a + slackPlace) ≡ s
   row-slack fits =
-      rw (get-put64-other _ (a + 24) e (a + 16) (inl (omega arith)))
-      (get-put64-same _ (a + 16) s (simp length-put64 (omega arith)) fits)
+      rw (get-put64-other _ (a + statePlace) e (a + slackPlace) (inl (omega arith)))
+      (get-put64-same _ (a + slackPlace) s (simp length-put64 (omega arith)) fits)
 
-  row-state : e < 2 ^ 64 → get64 (row t a k h s e) (a + 24) ≡ e
-  row-state fits = get-put64-same _ (a + 24) e (simp length-put64 (omega arith)) fits
+  row-state : e < 2 ^ 64 → get64 (row t a k h s e) (a + statePlace) ≡ e
+  row-state fits = get-put64-same _ (a + statePlace) e (simp length-put64 (omega arith)) fits
 
 pub record-same : (t : List ℕ) (i : ℕ) (r : Record) → i < recordCount t → IsRecord r → recordAt (putRecord t i r) i ≡ r
 unfolding recordAt putRecord
 record-same t i r h fits =
-    let room : recordSize * i + 32 ≤ length t = record-inside t i h in
+    let room : recordSize * i + recordSize ≤ length t = record-inside t i h in
     let a = recordSize * i in
     rw (
       row-key t a (r .key) (r .heat) (r .slack) (r .state) room (fits .key),
@@ -118,9 +118,9 @@ record-other t i j r h =
     (⊎-elim (λ l. inl (omega arith)) (λ l. inr (omega arith)) (apart i j h)) in
     rw (
       rw add-zero at (kept 0 (omega arith)),
-      kept 8 (omega arith),
-      kept 16 (omega arith),
-      kept 24 (omega arith),
+      kept heatPlace (omega arith),
+      kept slackPlace (omega arith),
+      kept statePlace (omega arith),
     )
 
 -- a zero byte is read at every place of a cleared table
@@ -211,14 +211,14 @@ pub gauge-same : (b : List ℕ) (g : Gauge) → length b ≡ gaugeSize → IsGau
 unfolding gaugeAt putGauge
 gauge-same b g e fits =
     rw (
-      get-put64-other _ 8 (g .ceiling) 0 (inl (omega arith)),
+      get-put64-other _ ceilingPlace (g .ceiling) 0 (inl (omega arith)),
       get-put64-same b 0 (g .total) (omega arith) (fits .total),
-      get-put64-same (put64 b 0 (g .total)) 8 (g .ceiling) (simp length-put64 (omega arith)) (fits .ceiling),
+      get-put64-same (put64 b 0 (g .total)) ceilingPlace (g .ceiling) (simp length-put64 (omega arith)) (fits .ceiling),
     )
 
 pub gauge-kept : (b : List ℕ) → IsBytes b → putGauge b (gaugeAt b) ≡ b
 unfolding gaugeAt putGauge
-gauge-kept b bytes = rw (put-get64 b 0 bytes) (put-get64 b 8 bytes)
+gauge-kept b bytes = rw (put-get64 b 0 bytes) (put-get64 b ceilingPlace bytes)
 
 -- ---- each record changed alike
 module _ (change : Record → Record) (kept : (r : Record) → IsRecord r → IsRecord (change r)) where

@@ -40,14 +40,24 @@ put64 bytes at n =
 abbrev pub recordSize : ℕ
 recordSize = 32
 
+-- where its numbers lie in it, after the key
+abbrev pub heatPlace : ℕ
+heatPlace = 8
+
+abbrev pub slackPlace : ℕ
+slackPlace = 16
+
+abbrev pub statePlace : ℕ
+statePlace = 24
+
 -- | four 64-bit unsigned numbers, least significant byte first: key, heat, slack, state
 unfoldable pub recordAt : List ℕ → ℕ → Record
 recordAt table i =
     record {
       key = get64 table (recordSize * i);
-      heat = get64 table (recordSize * i + 8);
-      slack = get64 table (recordSize * i + 16);
-      state = get64 table (recordSize * i + 24);
+      heat = get64 table (recordSize * i + heatPlace);
+      slack = get64 table (recordSize * i + slackPlace);
+      state = get64 table (recordSize * i + statePlace);
     }
 
 unfoldable pub putRecord : List ℕ → ℕ → Record → List ℕ
@@ -56,9 +66,9 @@ putRecord table i r =
     (put64
     (put64
     (put64 table (recordSize * i) (r .key))
-    (recordSize * i + 8) (r .heat))
-    (recordSize * i + 16) (r .slack))
-    (recordSize * i + 24) (r .state)
+    (recordSize * i + heatPlace) (r .heat))
+    (recordSize * i + slackPlace) (r .slack))
+    (recordSize * i + statePlace) (r .state)
 
 -- | K
 unfoldable pub recordCount : List ℕ → ℕ
@@ -84,8 +94,12 @@ lineCount lines = length lines / lineSize
 abbrev pub gaugeSize : ℕ
 gaugeSize = 16
 
+-- where its second number lies
+abbrev pub ceilingPlace : ℕ
+ceilingPlace = 8
+
 unfoldable pub gaugeAt : List ℕ → Gauge
-gaugeAt bytes = record { total = get64 bytes 0; ceiling = get64 bytes 8 }
+gaugeAt bytes = record { total = get64 bytes 0; ceiling = get64 bytes ceilingPlace }
 
 unfoldable pub putGauge : List ℕ → Gauge → List ℕ
-putGauge bytes g = put64 (put64 bytes 0 (g .total)) 8 (g .ceiling)
+putGauge bytes g = put64 (put64 bytes 0 (g .total)) ceilingPlace (g .ceiling)

@@ -17,7 +17,11 @@ use records::RECORD_SIZE;
 use records::record_at;
 use rules::Found;
 use rules::Lookup;
+use rules::MOST_RECORDS;
 use rules::Record;
+
+// So many marks do for a few lines.
+const FEW: usize = 64;
 
 // The largest number.
 const LARGEST: u64 = 18446744073709551615;
@@ -261,11 +265,11 @@ pub fn claimable(table: &[u8], lines: usize) -> Claim
     requires { ⌜ (lines < mostRecords) × ClaimFits (recordAt (now table)) (recordCount (now table)) (lines + 1) ⌝ }
     ensures { λ r. ⌜ IsClaim (recordAt (now (table .entry))) (recordCount (now (table .entry))) lines (r .line) (r .coldest) ⌝ }
 {
-    if lines < 64 {
-        let mut few = [0u8; 64];
+    if lines < FEW {
+        let mut few = [0u8; FEW];
         claim_marking(table, lines, &mut few)
     } else {
-        let mut many = [0u8; 1024];
+        let mut many = [0u8; MOST_RECORDS];
         claim_marking(table, lines, &mut many)
     }
 }
