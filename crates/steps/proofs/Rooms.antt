@@ -75,22 +75,22 @@ pub heats-gauge : (m : Memory) (g : Gauge) → HeatsFit m → g .ceiling ≤ mos
 unfolding withGauge places size
 heats-gauge m g fits most = record { ceiling = most; heat = fits .heat }
 
+-- what holds of every record once it is aged holds of every record of an aged memory
+aged-keeps : (P : Record → Type 0) (m : Memory) → IsBytes (m .table) → ((i : ℕ) → i < size m → P (agedRecord (places m i))) →
+    (i : ℕ) → i < size (aged m) → P (places (aged m) i)
+aged-keeps P m bytes holds i inside =
+    let within : i < size m = rw (size-aged m) at inside in
+    rw (places-aged m bytes i within) (holds i within)
+
 pub aged-heats : (m : Memory) → IsBytes (m .table) → HeatsFit m → HeatsFit (aged m)
 unfolding aged agedGauge withGauge agedRecord halfDown
 aged-heats m bytes fits =
     record {
       ceiling = omega (arith, fits .ceiling);
-      heat = λ i inside.
-          let within : i < size m = rw (size-aged m) at inside in
-          rw (places-aged m bytes i within) (omega (arith, fits .heat i within));
+      heat = aged-keeps (λ r. r .heat ≤ mostTotal) m bytes (λ i within. omega (arith, fits .heat i within));
     }
 
 pub aged-lines : (m : Memory) → IsBytes (m .table) → LinesFit m → LinesFit (aged m)
 unfolding agedRecord lineTotal aged withGauge withTable
 aged-lines m bytes fits =
-    record {
-      state = λ i inside.
-          let within : i < size m = rw (size-aged m) at inside in
-          rw (places-aged m bytes i within) (fits .state i within);
-      lines = fits .lines;
-    }
+    record { state = aged-keeps (λ r. r .state ≤ 1 + 2 * lineTotal m) m bytes (fits .state); lines = fits .lines }
