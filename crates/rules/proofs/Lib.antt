@@ -27,3 +27,4 @@ pub mod Refusals
 pub mod SampleList
 pub mod Idle
 pub mod Edges
+pub mod Pieces

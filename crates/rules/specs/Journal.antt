@@ -1,5 +1,6 @@
 -- The journal: its record forms, reading it from a position, and running a whole journal on a memory with the rows it prints.
 use Prim.Native.Nat.{ℕ, zero, suc, _+_, _-_, _*_, _/_, _%_}
+use mathlib.Core.Path.{_≡_}
 use mathlib.Core.List.{List, [], _∷_, _++_}
 use mathlib.Core.Bool.{Bool, true, false, _&&_}
 use lib.ListN.{length, getD, take, drop}
@@ -205,9 +206,19 @@ runFor j run (suc n) = perform j (runFor j run n) (entryAt j (runFor j run n .at
 unfoldable pub entryCount : List ℕ → ℕ
 entryCount j = (length j + (entrySize - 1)) / entrySize
 
+-- a run that goes on: at the start of a piece of the journal, with so many records numbered before it
+abbrev pub goingOn : Memory → ℕ → Run
+goingOn m numbered = record { memory = m; at = 0; numbered = numbered; rows = [] }
+
+-- the run of a journal, by that of its first piece and that of the rest
+pub record Joined (first rest all : Run) : Type 0 where
+  pub memory : all .memory ≡ rest .memory
+  pub numbered : all .numbered ≡ rest .numbered
+  pub rows : all .rows ≡ first .rows ++ rest .rows
+
 -- | reads a journal .., starts fresh
 unfoldable pub startRun : Memory → Run
-startRun m = record { memory = m; at = 0; numbered = 0; rows = [] }
+startRun m = goingOn m 0
 
 unfoldable pub journalRun : Memory → List ℕ → Run
 journalRun m j = runFor j (startRun m) (entryCount j)

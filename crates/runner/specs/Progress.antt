@@ -1,7 +1,7 @@
 -- What a step and a run of a journal give, in the words of their contracts.
 use Prim.Native.Nat.{ℕ, _+_, _≤_}
 use mathlib.Core.Path.{_≡_}
-use mathlib.Core.List.{List, [], _++_}
+use mathlib.Core.List.{List}
 use lib.ListN.{length}
 use Rattle.rules.specs.declared.Entry.{Entry}
 use Rattle.rules.specs.declared.Entry.the-variants.{Fill}
@@ -14,16 +14,6 @@ use Rattle.rows.specs.Written.{rowSize, Puts}
 -- a fill's picture lies in the journal
 pub record PictureInside (journal : List ℕ) (entry : Entry) : Type 0 where
   pub inside : (key place : ℕ) → entry ≡ Fill key place → place + lineSize ≤ length journal
-
--- a run that goes on: at the start of a piece of the journal, with so many records numbered before it
-abbrev pub goingOn : Memory → ℕ → Run
-goingOn m numbered = record { memory = m; at = 0; numbered = numbered; rows = [] }
-
--- the run of a journal, by that of its first piece and that of the rest
-pub record Joined (first rest all : Run) : Type 0 where
-  pub memory : all .memory ≡ rest .memory
-  pub numbered : all .numbered ≡ rest .numbered
-  pub rows : all .rows ≡ first .rows ++ rest .rows
 
 -- a run has come so far: memory and numbers are the run's, and its rows are written from the start of what the output was
 pub record Runs (run : Run) (out₀ : List ℕ) (q : Progress) (m : Memory) (out : List ℕ) : Type 0 where

@@ -2,10 +2,10 @@
 ghost use mathlib.Core.Path.{_≡_};
 ghost use Prim.Native.Nat.{_+_, _*_, _≤_, _<_, _^_};
 ghost use lib.ListN.{length};
-ghost use Rattle.rules.specs.Journal.{performed, isEnd, runFor, entryCount};
+ghost use Rattle.rules.specs.Journal.{performed, isEnd, runFor, entryCount, goingOn};
 ghost use Rattle.rules.specs.Calls.{lent, left};
 ghost use Rattle.rows.specs.Written.{rowSize};
-ghost use Rattle.runner.specs.Progress.{PictureInside, goingOn, Steps, Runs};
+ghost use Rattle.runner.specs.Progress.{PictureInside, Steps, Runs};
 use journal::ENTRY_SIZE;
 use journal::decode;
 use records::LINE_SIZE;

@@ -7,8 +7,8 @@ use native.Mathlib.Omega.{arith}
 use borrow.Author.Needs.{needs}
 use lib.ListN.{length}
 use Rattle.rules.specs.Calls.{lent}
-use Rattle.rules.specs.Journal.{runFor, entryCount, printedAll}
-use Rattle.runner.specs.Progress.{goingOn, Runs}
+use Rattle.rules.specs.Journal.{runFor, entryCount, printedAll, goingOn}
+use Rattle.runner.specs.Progress.{Runs}
 use Rattle.rows.proofs.Written.{written-none}
 use Rattle.runner.proofs.run.Statement.{statement}
 use Rattle.runner.proofs.run.Tie as tie

@@ -12,14 +12,13 @@ use borrow.Author.Tests.{lt-ltb, le-ltb, le-leb, lt-leb}
 use lib.Dec.{eqb}
 use lib.ListN.{length, getD, take, drop, length-append, length-drop, List·getD-append}
 use lib.Seq.{getD-append-add, take-append-le, drop-append-le, drop-append-add}
 use Rattle.rules.specs.declared.Entry.{Entry}
 use Rattle.rules.specs.declared.Entry.the-variants.{Read, Update, Fill, Age}
 use Rattle.rules.specs.Answers.{readKind, updateKind, fillKind}
 use Rattle.rules.specs.Bytes.{get64, lineSize}
 use Rattle.rules.specs.Pass.{if_then_else_}
 use Rattle.rules.specs.Table.{Memory}
-use Rattle.rules.specs.Journal.{Row, Run, entrySize, entryCount, kindAt, weightAt, keyAt, zeros, gapsZero, pictureZero, weightZero, keyZero, picturePlace, pictureAt, ofForm, wholeEntry, decoded, entryAt, rowOf, printing, performed, isEnd, perform, runFor}
-use Rattle.runner.specs.Progress.{goingOn, Joined}
+use Rattle.rules.specs.Journal.{Row, Run, entrySize, entryCount, kindAt, weightAt, keyAt, zeros, gapsZero, pictureZero, weightZero, keyZero, picturePlace, pictureAt, ofForm, wholeEntry, decoded, entryAt, rowOf, printing, performed, isEnd, perform, runFor, goingOn, Joined}
 
 -- ---- one record, at p of a journal and at q of another
 -- both do the same, and the place after it differs by as much as the place before
