@@ -1,11 +1,11 @@
-// Which records are on lines: a record takes a line that is free or a colder one's, and a cooled one yields to a hotter.
+// Which records are on lines: a record takes a line that is free or a colder one's, and a cooled one is demoted for a hotter.
 ghost use mathlib.Core.Path.{_≡_};
 ghost use mathlib.Core.Bool.{true};
 ghost use Prim.Native.Nat.{_<_};
 ghost use Rattle.rules.specs.Bytes.{recordAt, recordCount};
 ghost use Rattle.rules.specs.Table.{isLined, lineOf};
 ghost use Rattle.rules.specs.Calls.{mostRecords, lent};
-ghost use Rattle.rules.specs.Steps.{giveLine, handOver, admit, defend};
+ghost use Rattle.rules.specs.Steps.{giveLine, handOver, admit, demote};
 ghost use Rattle.lines.specs.Room.{LinesFit, HeatsBelow};
 use fields::is_lined;
 use fields::line_of;
@@ -67,9 +67,9 @@ pub fn admit(table: &mut [u8], gauge: Gauge, lines: &[u8], i: usize) -> Gauge
 }
 
 // The record at place i keeps its line unless the hottest record without one is hotter.
-pub fn defend(table: &mut [u8], gauge: Gauge, lines: &[u8], i: usize) -> Gauge
+pub fn demote(table: &mut [u8], gauge: Gauge, lines: &[u8], i: usize) -> Gauge
     requires { ⌜ (i < recordCount (now table)) × LinesFit (lent (now table) gauge (now lines)) ⌝ }
-    ensures { λ g. ⌜ lent (now (table .exit)) g (now (lines .entry)) ≡ defend (lent (now (table .entry)) gauge (now (lines .entry))) i ⌝ }
+    ensures { λ g. ⌜ lent (now (table .exit)) g (now (lines .entry)) ≡ demote (lent (now (table .entry)) gauge (now (lines .entry))) i ⌝ }
 {
     let r = record_at(table, i);
     if !is_lined(r) {

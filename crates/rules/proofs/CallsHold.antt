@@ -13,7 +13,7 @@ use Rattle.rules.specs.declared.Found.the-variants.{Nowhere, At}
 use Rattle.rules.specs.Bytes.{lineAt}
 use Rattle.rules.specs.Pass.{if_then_else_}
 use Rattle.rules.specs.Table.{Memory, isLined, lineOf, emptyState, unlined, onEmptyLine, withState, lowestUnused, isUsed, coldestLined, hottestUnlined, hotter, places, size, lineTotal, withTable, withGauge, write}
-use Rattle.rules.specs.Steps.{aged, giveLine, handOver, challenge, seek, admit, yieldTo, defend}
+use Rattle.rules.specs.Steps.{aged, giveLine, handOver, replaceColdest, promote, admit, demoteFor, demote}
 use Rattle.rules.specs.Calls.{sizesGood}
 use Rattle.rules.specs.Demand3.{Truth, at, ageTruth}
 use Rattle.rules.proofs.Words.{IsBytes}
@@ -24,7 +24,7 @@ use Rattle.rules.proofs.Invariant.{Sound, Full, Hottest, Kept, Holds, H
 use Rattle.rules.proofs.Changes.{at-other}
 use Rattle.rules.proofs.Memories.{places-write, size-write, sizes-write, bytes-write, sizes-say, places-aged, size-aged, sizes-aged, bytes-aged}
 use Rattle.rules.proofs.AgeKeeps.{age-sound, age-full, age-hottest}
-use Rattle.rules.proofs.LineKeeps.{give-sound, give-full, give-hottest, handed, hand-sound, hand-full, take-hottest, yield-hottest}
+use Rattle.rules.proofs.LineKeeps.{give-sound, give-full, give-hottest, handed, hand-sound, hand-full, take-hottest, demote-hottest}
 
 -- ---- age
 pub age-holds : (m : Memory) (t : Truth) → Holds m t → Holds (aged m) (ageTruth t)
@@ -151,11 +151,11 @@ unfolding lineOf
 line-few m t i sizes sound inside = omega (arith, sound .state-most i inside, lines-few m sizes)
 
 -- where every line is used
-challenge-holds : (m : Memory) (t : Truth) (i : ℕ) → HoldsBut i m t → i < size m → places m i .state ≡ 1 →
+replace-holds : (m : Memory) (t : Truth) (i : ℕ) → HoldsBut i m t → i < size m → places m i .state ≡ 1 →
     ((line : ℕ) → line < lineTotal m → isUsed (places m) (size m) line ≡ true) →
-    (x : Found) → coldestLined (places m) (size m) ≡ x → Holds (challenge m i x) t
-unfolding challenge hotter
-challenge-holds m t i h inside waits used Nowhere e =
+    (x : Found) → coldestLined (places m) (size m) ≡ x → Holds (replaceColdest m i x) t
+unfolding replaceColdest hotter
+replace-holds m t i h inside waits used Nowhere e =
     let low = coldest-missing (places m) (size m) e in
     record {
       sizes = h .sizes;
@@ -164,7 +164,7 @@ challenge-holds m t i h inside waits used Nowhere e =
       full = record { none-waits = λ line below unused j j-inside. clash (used line below) unused };
       hottest = record { hottest = λ a b a-inside b-inside lined b-waits. absurd (omega (arith, low a a-inside)) };
     }
-challenge-holds m t i h inside waits used (At j r) e = go (ltb (r .heat) (places m i .heat)) refl
+replace-holds m t i h inside waits used (At j r) e = go (ltb (r .heat) (places m i .heat)) refl
   where
     found : IsAt (places m) (size m) j r (λ s. (1 < s .state) × ((k : ℕ) → k < size m → 1 < places m k .state → s .heat ≤ places m k .heat))
     found = coldest-found (places m) (size m) j r e
@@ -205,7 +205,7 @@ challenge-holds m t i h inside waits used (At j r) e = go (ltb (r .heat) (places
         }
 
 pub admit-holds : (m : Memory) (t : Truth) (i : ℕ) → HoldsBut i m t → i < size m → 0 < places m i .state → Holds (admit m i) t
-unfolding admit seek isLined lowestUnused
+unfolding admit promote isLined lowestUnused
 admit-holds m t i h inside tracked = go (ltb 1 (places m i .state)) refl
   where
     -- the lowest line that is not used
@@ -213,17 +213,17 @@ admit-holds m t i h inside tracked = go (ltb 1 (places m i .state)) refl
     line = lowestUnused (places m) (size m) (lineTotal m)
 
     waiting : places m i .state ≡ 1 → (b : Bool) → ltb line (lineTotal m) ≡ b →
-        Holds (if b then giveLine m i line else challenge m i (coldestLined (places m) (size m))) t
+        Holds (if b then giveLine m i line else replaceColdest m i (coldestLined (places m) (size m))) t
     waiting waits true e =
         let below : line < lineTotal m = ltb-true line (lineTotal m) e in
         give-holds m t i line h inside waits below (lowest-fails (isUsed (places m) (size m)) (lineTotal m) below)
     waiting waits false e =
         let all : lineTotal m ≤ line = ltb-false line (lineTotal m) e in
-        challenge-holds m t i h inside waits
+        replace-holds m t i h inside waits
         (λ k below. lowest-before (isUsed (places m) (size m)) (lineTotal m) k (omega arith))
         (coldestLined (places m) (size m)) refl
 
-    go : (b : Bool) → ltb 1 (places m i .state) ≡ b → Holds (if b then m else seek m i line) t
+    go : (b : Bool) → ltb 1 (places m i .state) ≡ b → Holds (if b then m else promote m i line) t
     go true e =
         let lined : 1 < places m i .state = ltb-true 1 (places m i .state) e in
         let other : (j : ℕ) → places m j .state ≡ 1 → j ≢ i = λ j waits same. absurd (omega (arith, rw same at waits)) in
@@ -259,12 +259,12 @@ stays m t i h hot =
           };
     }
 
-yield-holds : (m : Memory) (t : Truth) (i : ℕ) → HoldsOver i m t → i < size m → 1 < places m i .state →
-    (x : Found) → hottestUnlined (places m) (size m) ≡ x → Holds (yieldTo m i x) t
-unfolding yieldTo hotter
-yield-holds m t i h inside lined Nowhere e =
+demote-for-holds : (m : Memory) (t : Truth) (i : ℕ) → HoldsOver i m t → i < size m → 1 < places m i .state →
+    (x : Found) → hottestUnlined (places m) (size m) ≡ x → Holds (demoteFor m i x) t
+unfolding demoteFor hotter
+demote-for-holds m t i h inside lined Nowhere e =
     stays m t i h (λ j j-inside waits _. absurd (hottest-missing (places m) (size m) e j j-inside waits))
-yield-holds m t i h inside lined (At j r) e = go (ltb (places m i .heat) (r .heat)) refl
+demote-for-holds m t i h inside lined (At j r) e = go (ltb (places m i .heat) (r .heat)) refl
   where
     found : IsAt (places m) (size m) j r (λ s. (s .state ≡ 1) × ((k : ℕ) → k < size m → places m k .state ≡ 1 → places m k .heat ≤ s .heat))
     found = hottest-found (places m) (size m) j r e
@@ -286,18 +286,18 @@ yield-holds m t i h inside lined (At j r) e = go (ltb (places m i .heat) (r .hea
         hand-kept m i j (h .bytes) inside (found .inside) lined (found .has .0) (line-few m t i (h .sizes) (h .sound) inside) t (h .sizes)
         (hand-sound f n c i j inside (found .inside) lined (found .has .0) (m .gauge) (lineAt (m .lines)) t (h .sound))
         (hand-full f n c i j inside (found .inside) lined (found .has .0) (λ line below. used line below (isUsed f n line) refl))
-        (yield-hottest f n c i j inside (found .inside) lined (found .has .0) (h .hottest) (found .has .1) hotter)
+        (demote-hottest f n c i j inside (found .inside) lined (found .has .0) (h .hottest) (found .has .1) hotter)
     go false cold =
         stays m t i h
         (λ k k-inside waits _. omega (arith, found .has .1 k k-inside waits, ltb-false (places m i .heat) (r .heat) cold, warmer))
 
-pub defend-holds : (m : Memory) (t : Truth) (i : ℕ) → HoldsOver i m t → i < size m → Holds (defend m i) t
-unfolding defend isLined
-defend-holds m t i h inside = go (ltb 1 (places m i .state)) refl
+pub demote-holds : (m : Memory) (t : Truth) (i : ℕ) → HoldsOver i m t → i < size m → Holds (demote m i) t
+unfolding demote isLined
+demote-holds m t i h inside = go (ltb 1 (places m i .state)) refl
   where
     go : (b : Bool) → ltb 1 (places m i .state) ≡ b →
-        Holds (if b then yieldTo m i (hottestUnlined (places m) (size m)) else m) t
-    go true e = yield-holds m t i h inside (ltb-true 1 (places m i .state) e) (hottestUnlined (places m) (size m)) refl
+        Holds (if b then demoteFor m i (hottestUnlined (places m) (size m)) else m) t
+    go true e = demote-for-holds m t i h inside (ltb-true 1 (places m i .state) e) (hottestUnlined (places m) (size m)) refl
     go false e =
         let low : places m i .state ≤ 1 = ltb-false 1 (places m i .state) e in
         stays m t i h (λ j j-inside waits lined. absurd (omega arith))

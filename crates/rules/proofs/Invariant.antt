@@ -70,6 +70,6 @@ Holds = Kept Full Hottest
 abbrev pub HoldsBut : ℕ → Memory → Truth → Type 0
 HoldsBut i = Kept (FullBut i) (HottestBut i)
 
--- while the class at place i may have to yield its line
+-- while the class at place i may have to be demoted
 abbrev pub HoldsOver : ℕ → Memory → Truth → Type 0
 HoldsOver i = Kept Full (HottestOver i)

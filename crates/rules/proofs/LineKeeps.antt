@@ -230,10 +230,10 @@ module _ (f : ℕ → Record) (n c a b : ℕ) (a-inside : a < n) (b-inside : b <
       (λ j below e not-b. omega (arith, h .hottest a j a-inside below lined e not-b))
       hotter
 
-  -- the colder one yields its line to the hottest
-  pub yield-hottest : HottestOver a f n → ((j : ℕ) → j < n → f j .state ≡ 1 → f j .heat ≤ f b .heat) → f a .heat < f b .heat →
+  -- the colder one is demoted for the hottest
+  pub demote-hottest : HottestOver a f n → ((j : ℕ) → j < n → f j .state ≡ 1 → f j .heat ≤ f b .heat) → f a .heat < f b .heat →
       Hottest (handed f a b) n
-  yield-hottest h hottest hotter =
+  demote-hottest h hottest hotter =
       hand-hottest
       (λ i j i-below j-below l e not-a not-b. h .hottest i j i-below j-below l e not-a)
       (λ i below l not-a. omega (arith, h .hottest i b below b-inside l waits not-a))

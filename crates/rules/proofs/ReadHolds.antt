@@ -1,5 +1,5 @@
 -- An accepted read keeps what holds: step 1 ages where the true total says so too, steps 2 to 4 count the pieces and find the class a
--- record, step 5 settles the lines. Assumes nothing.
+-- record, step 5 admits it. Assumes nothing.
 use Prim.Native.Nat.{ℕ, _+_, _≤_, _<_, _^_, max}
 use mathlib.Core.Path.{_≡_, refl, ap, subst}
 use mathlib.Core.Bool.{Bool, true, false, _&&_}
@@ -14,7 +14,7 @@ use Rattle.rules.specs.declared.Found.the-variants.{Nowhere, At}
 use Rattle.rules.specs.Bytes.{lineAt}
 use Rattle.rules.specs.Pass.{if_then_else_}
 use Rattle.rules.specs.Table.{Memory, isFree, isZero, heated, withHeat, newRecord, keyRecord, freeRecord, victim, halfDown, mostTotal, places, size, lineTotal, withTable, withGauge, write}
-use Rattle.rules.specs.Steps.{aged, agedGauge, makeRoom, grown, track, raised, evict, settle, place, readCounted, readSteps, level}
+use Rattle.rules.specs.Steps.{aged, agedGauge, decayFor, grown, track, raised, evict, admission, place, readCounted, readSteps, level}
 use Rattle.rules.specs.Calls.{mostWeight}
 use Rattle.rules.specs.Demand3.{Truth, at, ageTruth, grownTruth, readTruth}
 use Rattle.rules.proofs.Places.{IsRecord, recordAt-is}
@@ -27,11 +27,11 @@ use Rattle.rules.proofs.InOrder.{lined-most, has-victim}
 use Rattle.rules.proofs.ReadKeeps.{counted, heat-sound, heat-full, heat-hottest, track-sound, track-full, track-hottest, level-bounds}
 use Rattle.rules.proofs.CallsHold.{age-holds, write-kept, admit-holds}
 
--- the record written at i, tracked, is settled
-settled : (m : Memory) (t : Truth) (i : ℕ) (r : Record) → i < size m → IsRecord r → 0 < r .state →
-    HoldsBut i (write m i r) t → Holds (settle i (write m i r) .after) t
-unfolding settle
-settled m t i r inside is tracked h =
+-- the record written at i, tracked, is admitted
+admitted : (m : Memory) (t : Truth) (i : ℕ) (r : Record) → i < size m → IsRecord r → 0 < r .state →
+    HoldsBut i (write m i r) t → Holds (admission i (write m i r) .after) t
+unfolding admission
+admitted m t i r inside is tracked h =
     admit-holds (write m i r) t i h (rw (size-write m i r) inside)
     (rw (places-write m i r inside is, at-same i r (places m)) tracked)
 
@@ -66,7 +66,7 @@ unraised ceiling heat r tracked below = rw (ne-eqb (r .state) 0 tracked) (omega 
 module _ (m : Memory) (t : Truth) (key w : ℕ) (h : Holds m t) (room : m .gauge .total + w ≤ mostTotal) (fits : key < 2 ^ 64) where
   -- ---- step 2
   heat-holds : (i : ℕ) (r : Record) → keyRecord key (places m) (size m) ≡ At i r →
-      Holds (settle i (write (grown w m) i (heated w r)) .after) (grownTruth t key w)
+      Holds (admission i (write (grown w m) i (heated w r)) .after) (grownTruth t key w)
   unfolding grown withGauge places size lineTotal
   heat-holds i r e =
       let found = key-found (places m) (size m) key i r e in
@@ -76,7 +76,7 @@ module _ (m : Memory) (t : Truth) (key w : ℕ) (h : Holds m t) (room : m .gauge
       let hot : f i .heat + w < 2 ^ 64 = omega (arith, h .sound .heat-most i (found .inside)) in
       let written : IsRecord (heated w (f i)) = heated-is w (f i) is hot in
       rw (found .is, ← (found .has .1))
-      (settled (grown w m) _ i (heated w (f i)) (found .inside) written (heated-tracked w (f i) tracked)
+      (admitted (grown w m) _ i (heated w (f i)) (found .inside) written (heated-tracked w (f i) tracked)
       (write-kept (FullBut i) (HottestBut i) (grown w m) _ i (heated w (f i)) (h .sizes) (h .bytes) (found .inside) written
       (heat-sound f (size m) (lineTotal m) i (found .inside) w tracked (m .gauge) (lineAt (m .lines)) t (h .sound) room)
       (heat-full f (size m) (lineTotal m) i (found .inside) w tracked (h .full))
@@ -86,7 +86,7 @@ module _ (m : Memory) (t : Truth) (key w : ℕ) (h : Holds m t) (room : m .gauge
   track-holds : (i ceiling : ℕ) → i < size m → places m i .state ≤ 1 → keyRecord key (places m) (size m) ≡ Nowhere →
       m .gauge .ceiling ≤ ceiling → places m i .heat ≤ ceiling →
       ((j : ℕ) → j < size m → level ceiling (places m j) ≤ level (m .gauge .ceiling) (places m j)) →
-      Holds (settle i (track (withGauge (counted (m .gauge) w ceiling) m) key w i) .after) (grownTruth t key w)
+      Holds (admission i (track (withGauge (counted (m .gauge) w ceiling) m) key w i) .after) (grownTruth t key w)
   unfolding track withGauge places size lineTotal
   track-holds i ceiling inside unlined missing above covers lower =
       let f = places m in
@@ -95,7 +95,7 @@ module _ (m : Memory) (t : Truth) (key w : ℕ) (h : Holds m t) (room : m .gauge
       let low : ceiling ≤ m .gauge .total =
       omega (arith, level-bounds ceiling (m .gauge .ceiling) (f i) (lower i inside), h .sound .heat-most i inside, h .sound .ceiling-most) in
       let written : IsRecord (newRecord key ceiling w) = new-is key ceiling w fits (omega arith) in
-      settled m′ _ i (newRecord key ceiling w) inside written (new-tracked key ceiling w)
+      admitted m′ _ i (newRecord key ceiling w) inside written (new-tracked key ceiling w)
       (write-kept (FullBut i) (HottestBut i) m′ _ i (newRecord key ceiling w) (h .sizes) (h .bytes) inside written
       (track-sound f (size m) (lineTotal m) i inside key ceiling w unlined (m .gauge) (lineAt (m .lines)) t (h .sound) room untracked above covers lower)
       (track-full f (size m) (lineTotal m) i inside key ceiling w unlined (h .full))
@@ -144,7 +144,7 @@ aged-room m w small most = omega arith
 
 pub read-holds : (m : Memory) (t : Truth) (key w : ℕ) → Holds m t → w ≤ mostWeight → key < 2 ^ 64 →
     Holds (readSteps m key w .after) (readTruth t key w)
-unfolding readSteps makeRoom readTruth
+unfolding readSteps decayFor readTruth
 read-holds m t key w h small fits =
     subst
     (λ (total : ℕ). Holds (readSteps m key w .after) (grownTruth (if ltb mostTotal (total + w) then ageTruth t else t) key w))

@@ -20,7 +20,7 @@ use Rattle.rules.specs.declared.Verdict.the-variants.{Accepted}
 use Rattle.rules.specs.Pass.{if_then_else_}
 use Rattle.rules.specs.Table.{Memory, isLined, isFilled, lineOf, keyRecord, lookup, places, size}
 use Rattle.rules.specs.Answers.{isRefused, numberOf, lookupSaid}
-use Rattle.rules.specs.Steps.{Outcome, outcome, ageSteps, readAnswer, settle, place, readCounted, readSteps, change, updateSteps, store, fillSteps, makeRoom, grown}
+use Rattle.rules.specs.Steps.{Outcome, outcome, ageSteps, readAnswer, admission, place, readCounted, readSteps, change, updateSteps, store, fillSteps, decayFor, grown}
 use Rattle.rules.specs.Calls.{Test, unless, leaving, sizesTest, orderTest, HostMemory, held, stored, gaugeTest, verdict, hosted, plainVerdict, readVerdict, updateVerdict, fillVerdict, ageOutcome, readOutcome, updateOutcome, fillOutcome}
 use Rattle.rules.specs.Demand3.{Kind, read, update, fill, age, Call, outcomeOf, callOutcome}
 use Rattle.rules.proofs.Words.{IsBytes}
@@ -39,7 +39,7 @@ read-answers r = go (isFilled r) (isLined r)
     go false false = refl
 
 place-answers : (m : Memory) (key w : ℕ) (x y z : Found) → isRefused (place m key w x y z .answer) ≡ false
-unfolding place settle isRefused
+unfolding place admission isRefused
 place-answers m key w (At i r) y z = read-answers _
 place-answers m key w Nowhere (At i r) z = read-answers _
 place-answers m key w Nowhere Nowhere (At i r) = read-answers _
@@ -47,7 +47,7 @@ place-answers m key w Nowhere Nowhere Nowhere = refl
 
 read-steps-answer : (m : Memory) (key w : ℕ) → isRefused (readSteps m key w .answer) ≡ false
 unfolding readSteps readCounted
-read-steps-answer m key w = place-answers (grown w (makeRoom w m)) key w _ _ _
+read-steps-answer m key w = place-answers (grown w (decayFor w m)) key w _ _ _
 
 change-answers : (m : Memory) (w : ℕ) (x : Found) → isRefused (change m w x .answer) ≡ false
 unfolding change isRefused

@@ -1,4 +1,4 @@
--- An accepted update keeps what holds: the class is cooled and its line emptied, then it yields its line or keeps it. Assumes nothing.
+-- An accepted update keeps what holds: the class is cooled and its line emptied, then it is demoted or keeps its line. Assumes nothing.
 use Prim.Native.Nat.{ℕ, _-_, _<_, _^_}
 use mathlib.Core.Path.{_≡_, refl}
 use mathlib.Core.Bool.{Bool, true, false}
@@ -18,7 +18,7 @@ use Rattle.rules.proofs.Finds.{key-found, key-missing}
 use Rattle.rules.proofs.Invariant.{Full, HottestOver, Holds}
 use Rattle.rules.proofs.Memories.{size-write}
 use Rattle.rules.proofs.UpdateKeeps.{cool-sound, cool-full, cool-hottest, unknown-sound}
-use Rattle.rules.proofs.CallsHold.{at-is, write-kept, defend-holds}
+use Rattle.rules.proofs.CallsHold.{at-is, write-kept, demote-holds}
 
 cooled-is : (w : ℕ) (r : Record) → IsRecord r → IsRecord (emptied (cooled w r))
 unfolding emptied cooled withHeat onEmptyLine withState emptyState isLined lineOf
@@ -55,7 +55,7 @@ update-holds m t key w h = go (keyRecord key (places m) (size m)) refl
         let tracked : 0 < f i .state = found .has .0 in
         let s : Record = emptied (cooled w (f i)) in
         rw (found .is, ← (found .has .1))
-        (defend-holds (write m i s) _ i
+        (demote-holds (write m i s) _ i
         (write-kept Full (HottestOver i) m _ i s (h .sizes) (h .bytes) (found .inside)
         (cooled-is w (f i) (at-is m i (h .bytes)))
         (cool-sound f (size m) (lineTotal m) i w (found .inside) tracked (m .gauge) (lineAt (m .lines)) t (h .sound))

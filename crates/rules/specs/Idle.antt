@@ -13,7 +13,7 @@ use Rattle.rules.specs.declared.Answer.the-variants.{Unknown, Passed, Re
 use Rattle.rules.specs.Pass.{if_then_else_}
 use Rattle.rules.specs.Table.{Memory, keyRecord, places, size, withTable, withGauge}
 use Rattle.rules.specs.Answers.{noLine, wrongSizes, isRefused}
-use Rattle.rules.specs.Steps.{Outcome, outcome, makeRoom, grown, readAnswer, readSteps}
+use Rattle.rules.specs.Steps.{Outcome, outcome, decayFor, grown, readAnswer, readSteps}
 use Rattle.rules.specs.Calls.{unless, leaving, readVerdict, updateVerdict, fillVerdict, readOutcome, updateOutcome, fillOutcome}
 use Rattle.rules.specs.Demand3.{Call, Heard, heard, unheard, replay, Demand3}
 use Rattle.rules.specs.Sample.{sampleStart}
@@ -58,7 +58,7 @@ echoingRead m key w = unless (readVerdict m w) (leaving m) (echoingSteps m key w
 -- | one that leaves the table empty: the answer and the total are a read's
 unfoldable pub emptySteps : Memory → ℕ → ℕ → Outcome Answer Memory
 emptySteps m key w =
-    outcome (readSteps m key w .answer) (withTable (replicate (length (m .table)) 0) (grown w (makeRoom w m)))
+    outcome (readSteps m key w .answer) (withTable (replicate (length (m .table)) 0) (grown w (decayFor w m)))
 
 unfoldable pub emptyRead : Memory → ℕ → ℕ → Outcome Answer Memory
 emptyRead m key w = unless (readVerdict m w) (leaving m) (emptySteps m key w)

@@ -48,8 +48,8 @@ handOver m from to = giveLine (write m from (unlined (places m from))) to (lineO
 
 -- ---- Read
 -- | 1. If total + w exceeds L, age first.
-unfoldable pub makeRoom : ℕ → Memory → Memory
-makeRoom w m = if ltb mostTotal (m .gauge .total + w) then aged m else m
+unfoldable pub decayFor : ℕ → Memory → Memory
+decayFor w m = if ltb mostTotal (m .gauge .total + w) then aged m else m
 
 -- | Then total grows by w.
 unfoldable pub grown : ℕ → Memory → Memory
@@ -70,29 +70,29 @@ evict m key w i v = track (raised (v .heat) m) key w i
 -- | 5. If the key has no line: with a line used by no record, it takes the lowest such line. Otherwise, if C is over 0 and
 -- | its heat is greater than that of the coldest record on a line (first among equals), it takes that record's line and that
 -- | record's state becomes 1. (With C = 0 no record of a table in order is on a line.)
-unfoldable pub challenge : Memory → ℕ → Found → Memory
-challenge m i Nowhere = m
-challenge m i (At j r) = if hotter (places m i) r then handOver m j i else m
+unfoldable pub replaceColdest : Memory → ℕ → Found → Memory
+replaceColdest m i Nowhere = m
+replaceColdest m i (At j r) = if hotter (places m i) r then handOver m j i else m
 
-unfoldable pub seek : Memory → ℕ → ℕ → Memory
-seek m i n = if ltb n (lineTotal m) then giveLine m i n else challenge m i (coldestLined (places m) (size m))
+unfoldable pub promote : Memory → ℕ → ℕ → Memory
+promote m i n = if ltb n (lineTotal m) then giveLine m i n else replaceColdest m i (coldestLined (places m) (size m))
 
 unfoldable pub admit : Memory → ℕ → Memory
-admit m i = if isLined (places m i) then m else seek m i (lowestUnused (places m) (size m) (lineTotal m))
+admit m i = if isLined (places m i) then m else promote m i (lowestUnused (places m) (size m) (lineTotal m))
 
 -- | 6. Answer: hit with the line number if its line is filled; wanted with the number if empty; passed if it has no line.
 unfoldable pub readAnswer : Record → Answer
 readAnswer r = if isFilled r then Hit (lineOf r) else if isLined r then Wanted (lineOf r) else Passed
 
-unfoldable pub settle : ℕ → Memory → Outcome Answer Memory
-settle i m = outcome (readAnswer (places (admit m i) i)) (admit m i)
+unfoldable pub admission : ℕ → Memory → Outcome Answer Memory
+admission i m = outcome (readAnswer (places (admit m i) i)) (admit m i)
 
 -- | 2. Tracked key: its heat grows by w. 3. Untracked key with a free record: the first free one. 4. Untracked key, no free
 -- | record: the victim. (A table in order, with C under K, has a free record or a victim.)
 unfoldable pub place : Memory → ℕ → ℕ → Found → Found → Found → Outcome Answer Memory
-place m key w (At i r) free coldest = settle i (write m i (heated w r))
-place m key w Nowhere (At i r) coldest = settle i (track m key w i)
-place m key w Nowhere Nowhere (At i r) = settle i (evict m key w i r)
+place m key w (At i r) free coldest = admission i (write m i (heated w r))
+place m key w Nowhere (At i r) coldest = admission i (track m key w i)
+place m key w Nowhere Nowhere (At i r) = admission i (evict m key w i r)
 place m key w Nowhere Nowhere Nowhere = outcome Passed m
 
 unfoldable pub readCounted : Memory → ℕ → ℕ → Outcome Answer Memory
@@ -103,23 +103,23 @@ readCounted m key w =
     (victim (places m) (size m))
 
 unfoldable pub readSteps : Memory → ℕ → ℕ → Outcome Answer Memory
-readSteps m key w = readCounted (grown w (makeRoom w m)) key w
+readSteps m key w = readCounted (grown w (decayFor w m)) key w
 
 -- ---- Update
 -- | If it has a line and the hottest record without one (first among equals) is now strictly hotter, that record takes the
 -- | line, empty, and the key's state becomes 1.
-unfoldable pub yieldTo : Memory → ℕ → Found → Memory
-yieldTo m i Nowhere = m
-yieldTo m i (At j r) = if hotter r (places m i) then handOver m i j else m
+unfoldable pub demoteFor : Memory → ℕ → Found → Memory
+demoteFor m i Nowhere = m
+demoteFor m i (At j r) = if hotter r (places m i) then handOver m i j else m
 
-unfoldable pub defend : Memory → ℕ → Memory
-defend m i = if isLined (places m i) then yieldTo m i (hottestUnlined (places m) (size m)) else m
+unfoldable pub demote : Memory → ℕ → Memory
+demote m i = if isLined (places m i) then demoteFor m i (hottestUnlined (places m) (size m)) else m
 
 -- | An untracked key changes nothing; answer: unknown. Otherwise its heat falls by w, not below 0, and a line it has becomes
 -- | empty. .. Answer: changed.
 unfoldable pub change : Memory → ℕ → Found → Outcome Answer Memory
 change m w Nowhere = outcome Unknown m
-change m w (At i r) = outcome Changed (defend (write m i (emptied (cooled w r))) i)
+change m w (At i r) = outcome Changed (demote (write m i (emptied (cooled w r))) i)
 
 unfoldable pub updateSteps : Memory → ℕ → ℕ → Outcome Answer Memory
 updateSteps m key w = change m w (keyRecord key (places m) (size m))

@@ -6,7 +6,7 @@ ghost use Rattle.rules.specs.Table.{mostTotal, agedRecord, freeRecord, victim, 
 ghost use Rattle.rules.specs.Calls.{mostWeight, lent, left};
 ghost use Rattle.rules.specs.declared.Found.the-variants.{Nowhere};
 ghost use Rattle.rules.specs.Answers.{numberOf};
-ghost use Rattle.rules.specs.Steps.{aged, makeRoom, track, settle, place, readCounted, readSteps, updateSteps};
+ghost use Rattle.rules.specs.Steps.{aged, decayFor, track, admission, place, readCounted, readSteps, updateSteps};
 ghost use Rattle.lines.specs.Room.{LinesFit, HeatsBelow};
 ghost use Rattle.steps.specs.Room.{HeatsFit};
 use fields::aged_record;
@@ -16,7 +16,7 @@ use fields::heated;
 use fields::new_record;
 use fields::read_answer;
 use lines::admit;
-use lines::defend;
+use lines::demote;
 use records::RECORD_SIZE;
 use records::put_record;
 use records::record_at;
@@ -54,9 +54,9 @@ pub fn age_all(table: &mut [u8], gauge: Gauge, lines: &[u8]) -> Gauge
 
 // ---- Read
 
-fn make_room(table: &mut [u8], gauge: Gauge, lines: &[u8], weight: u64) -> Gauge
+fn decay_for(table: &mut [u8], gauge: Gauge, lines: &[u8], weight: u64) -> Gauge
     requires { ⌜ (gauge .total ≤ mostTotal) × (weight ≤ mostWeight) ⌝ }
-    ensures { λ g. ⌜ lent (now (table .exit)) g (now (lines .entry)) ≡ makeRoom weight (lent (now (table .entry)) gauge (now (lines .entry))) ⌝ }
+    ensures { λ g. ⌜ lent (now (table .exit)) g (now (lines .entry)) ≡ decayFor weight (lent (now (table .entry)) gauge (now (lines .entry))) ⌝ }
 {
     if MOST_TOTAL < gauge.total + weight {
         age_all(table, gauge, lines)
@@ -66,9 +66,9 @@ fn make_room(table: &mut [u8], gauge: Gauge, lines: &[u8], weight: u64) -> Gauge
 }
 
 // Steps 5 and 6.
-fn settle(table: &mut [u8], gauge: Gauge, lines: &[u8], i: usize) -> Reply
+fn admission(table: &mut [u8], gauge: Gauge, lines: &[u8], i: usize) -> Reply
     requires { ⌜ (i < recordCount (now table)) × LinesFit (lent (now table) gauge (now lines)) × HeatsBelow (lent (now table) gauge (now lines)) ⌝ }
-    ensures { λ r. ⌜ left r (now (table .exit)) (now (lines .entry)) ≡ settle i (lent (now (table .entry)) gauge (now (lines .entry))) ⌝ }
+    ensures { λ r. ⌜ left r (now (table .exit)) (now (lines .entry)) ≡ admission i (lent (now (table .entry)) gauge (now (lines .entry))) ⌝ }
     ensures { λ r. ⌜ numberOf (r .answer) < 2 ^ 64 ⌝ }
 {
     let after = admit(table, gauge, lines, i);
@@ -115,7 +115,7 @@ fn read_evicting(
         ceiling,
     };
     let after = track(table, raised, lines, key, weight, i);
-    settle(table, after, lines, i)
+    admission(table, after, lines, i)
 }
 
 // Steps 3 and 4.
@@ -131,7 +131,7 @@ fn read_untracked(table: &mut [u8], gauge: Gauge, lines: &[u8], key: u64, weight
         return read_evicting(table, gauge, lines, key, weight, coldest);
     };
     let after = track(table, gauge, lines, key, weight, i);
-    settle(table, after, lines, i)
+    admission(table, after, lines, i)
 }
 
 // Steps 2 to 6.
@@ -145,7 +145,7 @@ fn read_counted(table: &mut [u8], gauge: Gauge, lines: &[u8], key: u64, weight: 
         return read_untracked(table, gauge, lines, key, weight);
     };
     put_record(table, i, heated(weight, r));
-    settle(table, gauge, lines, i)
+    admission(table, gauge, lines, i)
 }
 
 pub fn read_steps(table: &mut [u8], gauge: Gauge, lines: &[u8], key: u64, weight: u64) -> Reply
@@ -153,7 +153,7 @@ pub fn read_steps(table: &mut [u8], gauge: Gauge, lines: &[u8], key: u64, weight
     ensures { λ r. ⌜ left r (now (table .exit)) (now (lines .entry)) ≡ readSteps (lent (now (table .entry)) gauge (now (lines .entry))) key weight ⌝ }
     ensures { λ r. ⌜ numberOf (r .answer) < 2 ^ 64 ⌝ }
 {
-    let roomy = make_room(table, gauge, lines, weight);
+    let roomy = decay_for(table, gauge, lines, weight);
     let grown = Gauge {
         total: roomy.total + weight,
         ceiling: roomy.ceiling,
@@ -176,7 +176,7 @@ pub fn update_steps(table: &mut [u8], gauge: Gauge, lines: &[u8], key: u64, weig
         };
     };
     put_record(table, i, emptied(cooled(weight, r)));
-    let after = defend(table, gauge, lines, i);
+    let after = demote(table, gauge, lines, i);
     Reply {
         answer: Answer::Changed,
         gauge: after,

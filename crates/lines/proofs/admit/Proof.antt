@@ -7,7 +7,7 @@ use borrow.Author.Needs.{needs}
 use denote.Ref.{now}
 use Rattle.rules.specs.Bytes.{lineCount}
 use Rattle.rules.specs.Table.{isLined, hotter, lineOf, places, size, lineTotal}
-use Rattle.rules.specs.Steps.{admit, seek, challenge}
+use Rattle.rules.specs.Steps.{admit, promote, replaceColdest}
 use Rattle.rules.specs.Calls.{lent}
 use Rattle.rules.proofs.Finds.{coldest-found}
 use Rattle.lines.proofs.admit.Statement.{statement}
@@ -39,13 +39,13 @@ give-line-requires c κs = search needs
 same-length-2 : tie.Need-same-length-2
 same-length-2 c = search needs
 
--- a record that is on no line seeks one
-seeks : (c : tie.After-claimable) →
+-- a record that is on no line promotes one
+promotes : (c : tie.After-claimable) →
     let args = c .before .before .before .before .before .before .before .before .args in
     let m = lent (now (args .table)) (args .gauge) (now (args .lines)) in
-    admit m (args .i) ≡ seek m (args .i) (c .claimable .result .line)
+    admit m (args .i) ≡ promote m (args .i) (c .claimable .result .line)
 unfolding admit places size lineTotal lineCount
-seeks c =
+promotes c =
     let asked = c .before .before .before in
     rw (
       ← asked .before .record-at .ensures,
@@ -55,10 +55,10 @@ seeks c =
     )
 
 returns-2 : tie.Need-returns-2
-unfolding seek lineTotal lineCount
+unfolding promote lineTotal lineCount
 returns-2 c =
     let unused = c .before .before .before .before in
-    rw (seeks (unused .before), lt-ltb _ _ (unused .if2 .taken)) (c .before .before .give-line .ensures)
+    rw (promotes (unused .before), lt-ltb _ _ (unused .if2 .taken)) (c .before .before .give-line .ensures)
 
 enum-known-coldest : tie.Need-enum-known-coldest
 enum-known-coldest c = search needs
@@ -69,17 +69,17 @@ enum-told c = search needs
 same-length-3 : tie.Need-same-length-3
 same-length-3 c = search needs
 
--- and where every line is used, it challenges the coldest that is on one
-challenges : (c : tie.Else2) →
+-- and where every line is used, it replaces the coldest that is on one
+replaces : (c : tie.Else2) →
     let args = c .before .before .before .before .before .before .before .before .before .args in
     let m = lent (now (args .table)) (args .gauge) (now (args .lines)) in
-    admit m (args .i) ≡ challenge m (args .i) (c .before .claimable .result .coldest)
-unfolding seek places size lineTotal lineCount
-challenges c = rw (seeks (c .before), le-ltb _ _ (c .if2 .left), ← c .before .claimable .ensures .coldest-is)
+    admit m (args .i) ≡ replaceColdest m (args .i) (c .before .claimable .result .coldest)
+unfolding promote places size lineTotal lineCount
+replaces c = rw (promotes (c .before), le-ltb _ _ (c .if2 .left), ← c .before .claimable .ensures .coldest-is)
 
 returns-3 : tie.Need-returns-3
-unfolding challenge
-returns-3 c = rw (challenges (c .before .before), c .enum-told .given .1)
+unfolding replaceColdest
+returns-3 c = rw (replaces (c .before .before), c .enum-told .given .1)
 
 hand-over-requires : tie.Need-hand-over-requires
 unfolding isLined lineOf places size lineTotal
@@ -94,11 +94,11 @@ same-length-4 : tie.Need-same-length-4
 same-length-4 c = search needs
 
 returns-4 : tie.Need-returns-4
-unfolding challenge hotter places
+unfolding replaceColdest hotter places
 returns-4 c =
     let told = c .before .before .before .before .before .before .before .before in
     rw (
-      challenges (told .before .before),
+      replaces (told .before .before),
       told .coldest .given .1,
       ← told .before .before .before .before .before .before .before .record-at .ensures,
       lt-ltb _ _ (c .before .before .before .before .if3 .taken),
@@ -108,11 +108,11 @@ same-length-5 : tie.Need-same-length-5
 same-length-5 c = search needs
 
 returns-5 : tie.Need-returns-5
-unfolding challenge hotter places
+unfolding replaceColdest hotter places
 returns-5 c =
     let told = c .before .before .before .before in
     rw (
-      challenges (told .before .before),
+      replaces (told .before .before),
       told .coldest .given .1,
       ← told .before .before .before .before .before .before .before .record-at .ensures,
       le-ltb _ _ (c .if3 .left),

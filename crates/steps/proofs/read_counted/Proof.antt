@@ -45,9 +45,9 @@ put-record-requires c κs =
     let told = c .before .before .before in
     key-found _ _ _ _ _ (sym (told .before .before .key-record .ensures) ∙ told .found .given .1) .inside
 
-settle-requires : tie.Need-settle-requires
+admission-requires : tie.Need-admission-requires
 unfolding recordCount heated withHeat places size write withTable
-settle-requires c κs =
+admission-requires c κs =
     let warmed = c .before .before .before .before in
     let told = warmed .before .before .before in
     let found = key-found _ _ _ _ _ (sym (told .before .before .key-record .ensures) ∙ told .found .given .1) in
@@ -75,7 +75,7 @@ returns-2 c =
       told .found .given .1,
       ← warmed .heated .ensures,
       ← c .before .before .before .before .before .before .put-record .ensures,
-    ) (c .before .before .settle .ensures)
+    ) (c .before .before .admission .ensures)
 
 pub read-counted-spec : {M : Type 1} → statement M
 read-counted-spec =
@@ -89,6 +89,6 @@ read-counted-spec =
     returns
     heated-requires
     put-record-requires
-    settle-requires
+    admission-requires
     same-length-2
     returns-2)

@@ -45,9 +45,9 @@ track-requires c κs =
     let found = victim-found _ _ _ _ (sym (told .before .before .before .before .pre .3) ∙ told .coldest .given .1) in
     (found .inside, told .before .before .before .before .pre .0, ceiling-most (c .before))
 
-settle-requires : tie.Need-settle-requires
+admission-requires : tie.Need-admission-requires
 unfolding recordCount size withGauge
-settle-requires c κs =
+admission-requires c κs =
     let raised = c .before .before .before .before .before in
     let told = raised .before .before .before .before in
     let found = victim-found _ _ _ _ (sym (told .before .before .before .before .pre .3) ∙ told .coldest .given .1) in
@@ -73,7 +73,7 @@ returns-2 c =
       told .coldest .given .1,
       ← larger raised,
       ← c .before .before .before .before .before .before .track .ensures,
-    ) (c .before .before .settle .ensures)
+    ) (c .before .before .admission .ensures)
 
 pub read-evicting-spec : {M : Type 1} → statement M
 read-evicting-spec =
@@ -83,6 +83,6 @@ read-evicting-spec =
     enum-told
     returns
     track-requires
-    settle-requires
+    admission-requires
     same-length
     returns-2)

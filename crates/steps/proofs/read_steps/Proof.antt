@@ -9,7 +9,7 @@ use lib.Dec.{ltb}
 use denote.Ref.{now}
 use Rattle.rules.specs.Pass.{if_then_else_}
 use Rattle.rules.specs.Table.{Memory, mostTotal, halfDown, places, size, withGauge}
-use Rattle.rules.specs.Steps.{aged, agedGauge, makeRoom, grown, readSteps}
+use Rattle.rules.specs.Steps.{aged, agedGauge, decayFor, grown, readSteps}
 use Rattle.rules.specs.Calls.{lent}
 use Rattle.rules.proofs.Words.{IsBytes}
 use Rattle.lines.specs.Room.{LinesFit}
@@ -18,27 +18,27 @@ use Rattle.steps.proofs.Rooms.{lines-gauge, aged-heats, aged-lines}
 use Rattle.steps.proofs.read_steps.Statement.{statement}
 use Rattle.steps.proofs.read_steps.Tie as tie
 
-make-room-requires : tie.Need-make-room-requires
-make-room-requires c κs = search needs
+decay-for-requires : tie.Need-decay-for-requires
+decay-for-requires c κs = search needs
 
 abbrev Roomy : Memory → Type 0
 Roomy m = (m .gauge .total ≤ mostTotal) × HeatsFit m × LinesFit m
 
-room-made : (w : ℕ) (m : Memory) → IsBytes (m .table) → Roomy m → Roomy (makeRoom w m)
-unfolding makeRoom aged agedGauge withGauge halfDown
+room-made : (w : ℕ) (m : Memory) → IsBytes (m .table) → Roomy m → Roomy (decayFor w m)
+unfolding decayFor aged agedGauge withGauge halfDown
 room-made w m bytes (total, heats, lines) = go (ltb mostTotal (m .gauge .total + w))
   where
     go : (b : Bool) → Roomy (if b then aged m else m)
     go true = (omega arith, aged-heats m bytes heats, aged-lines m bytes lines)
     go false = (total, heats, lines)
 
-roomy : (c : tie.After-make-room) →
-    Roomy (lent (c .make-room .last .0) (c .make-room .result) (now (c .before .before .before .before .args .lines)))
+roomy : (c : tie.After-decay-for) →
+    Roomy (lent (c .decay-for .last .0) (c .decay-for .result) (now (c .before .before .before .before .args .lines)))
 roomy c =
     let known = c .before .before .before in
     let bytes : IsBytes (now (known .before .args .table)) = record { below = λ i. known .slice-known .given i .fits } in
     let (total, weight, heats, lines) = known .before .pre in
-    subst Roomy (sym (c .make-room .ensures)) (room-made _ _ bytes (total, heats, lines))
+    subst Roomy (sym (c .decay-for .ensures)) (room-made _ _ bytes (total, heats, lines))
 
 add-t10 : tie.Need-add-t10
 add-t10 c = let made = c .before .before .before in omega (arith, roomy made .0, made .before .before .before .before .pre .1)
@@ -57,8 +57,8 @@ returns : tie.Need-returns
 unfolding readSteps grown withGauge
 returns c =
     let made = c .before .before .before .before .before .before .before in
-    rw (← made .make-room .ensures) (c .before .before .read-counted .ensures)
+    rw (← made .decay-for .ensures) (c .before .before .read-counted .ensures)
 
 pub read-steps-spec : {M : Type 1} → statement M
 read-steps-spec =
-    tie.close (tie.spec make-room-requires add-t10 read-counted-requires same-length returns)
+    tie.close (tie.spec decay-for-requires add-t10 read-counted-requires same-length returns)

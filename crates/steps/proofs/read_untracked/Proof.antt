@@ -42,9 +42,9 @@ track-requires c κs =
     let (weight, heats, lines) = told .before .before .before .before .before .before .pre in
     (found .inside, weight, heats .ceiling)
 
-settle-requires : tie.Need-settle-requires
+admission-requires : tie.Need-admission-requires
 unfolding recordCount size
-settle-requires c κs =
+admission-requires c κs =
     let told = c .before .before .before .before .before .before in
     let found = free-found _ _ _ _ (sym (told .before .before .replaceable .ensures .free-is) ∙ told .free .given .1) in
     let start = told .before .before .before .before .before .before in
@@ -65,7 +65,7 @@ returns-2 c =
       ← told .before .before .replaceable .ensures .free-is,
       told .free .given .1,
       ← tracked .track .ensures,
-    ) (c .before .before .settle .ensures)
+    ) (c .before .before .admission .ensures)
 
 pub read-untracked-spec : {M : Type 1} → statement M
 read-untracked-spec =
@@ -78,6 +78,6 @@ read-untracked-spec =
     same-length
     returns
     track-requires
-    settle-requires
+    admission-requires
     same-length-2
     returns-2)

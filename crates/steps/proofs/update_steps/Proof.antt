@@ -54,9 +54,9 @@ emptied-most r n most = go (ltb 1 (r .state)) refl
     go true e = omega (arith, ltb-true 1 (r .state) e)
     go false e = most
 
-defend-requires : tie.Need-defend-requires
+demote-requires : tie.Need-demote-requires
 unfolding recordCount cooled withHeat places size write withTable
-defend-requires c κs =
+demote-requires c κs =
     let freed = c .before .before .before .before in
     let told = freed .before .before .before .before in
     let found = key-found _ _ _ _ _ (sym (told .before .before .key-record .ensures) ∙ told .tracked .given .1) in
@@ -83,7 +83,7 @@ returns-2 c =
         ← freed .before .cooled .ensures,
         ← freed .emptied .ensures,
         ← c .before .before .before .before .before .before .put-record .ensures,
-        c .before .before .defend .ensures,
+        c .before .before .demote .ensures,
       ),
       omega arith,
     )
@@ -100,6 +100,6 @@ update-steps-spec =
     cooled-requires
     emptied-requires
     put-record-requires
-    defend-requires
+    demote-requires
     same-length-2
     returns-2)

@@ -1,4 +1,4 @@
--- `lines::defend` meets its contract: its branches are the definition's. The line that is given up is there, since every line
+-- `lines::demote` meets its contract: its branches are the definition's. The line that is given up is there, since every line
 -- that a state names is. Assumes nothing.
 use mathlib.Core.Path.{_≡_, sym, _∙_}
 use native.Mathlib.Omega.{arith}
@@ -6,12 +6,12 @@ use borrow.Author.Tests.{lt-ltb, le-ltb}
 use borrow.Author.Needs.{needs}
 use denote.Ref.{now}
 use Rattle.rules.specs.Table.{hotter, lineOf, places, size, lineTotal}
-use Rattle.rules.specs.Steps.{yieldTo, defend}
+use Rattle.rules.specs.Steps.{demoteFor, demote}
 use Rattle.rules.specs.Calls.{lent}
 use Rattle.rules.proofs.Finds.{hottest-found}
 use Rattle.rules.proofs.Branches.{fails, passes}
-use Rattle.lines.proofs.defend.Statement.{statement}
-use Rattle.lines.proofs.defend.Tie as tie
+use Rattle.lines.proofs.demote.Statement.{statement}
+use Rattle.lines.proofs.demote.Tie as tie
 
 record-at-requires : tie.Need-record-at-requires
 record-at-requires c κs = search needs
@@ -23,7 +23,7 @@ same-length : tie.Need-same-length
 same-length c = search needs
 
 returns : tie.Need-returns
-unfolding defend places
+unfolding demote places
 returns c = rw (← c .before .before .record-at .ensures, fails (c .before .is-lined .ensures) (c .if1 .taken))
 
 hottest-unlined-requires : tie.Need-hottest-unlined-requires
@@ -38,13 +38,13 @@ enum-told c = search needs
 same-length-2 : tie.Need-same-length-2
 same-length-2 c = search needs
 
--- a record on a line may have to yield it to the hottest that is on none
-yields : (c : tie.After-hottest-unlined) →
+-- a record on a line may be demoted for the hottest that is on none
+demotes : (c : tie.After-hottest-unlined) →
     let args = c .before .before .before .before .before .before .before .before .args in
     let m = lent (now (args .table)) (args .gauge) (now (args .lines)) in
-    defend m (args .i) ≡ yieldTo m (args .i) (c .hottest-unlined .result)
-unfolding defend places size
-yields c =
+    demote m (args .i) ≡ demoteFor m (args .i) (c .hottest-unlined .result)
+unfolding demote places size
+demotes c =
     let lined = c .before .before in
     rw (
       ← lined .before .before .record-at .ensures,
@@ -53,8 +53,8 @@ yields c =
     )
 
 returns-2 : tie.Need-returns-2
-unfolding yieldTo
-returns-2 c = rw (yields (c .before .before), c .enum-told .given .1)
+unfolding demoteFor
+returns-2 c = rw (demotes (c .before .before), c .enum-told .given .1)
 
 hand-over-requires : tie.Need-hand-over-requires
 unfolding lineOf places size lineTotal
@@ -74,11 +74,11 @@ same-length-3 : tie.Need-same-length-3
 same-length-3 c = search needs
 
 returns-3 : tie.Need-returns-3
-unfolding yieldTo hotter places
+unfolding demoteFor hotter places
 returns-3 c =
     let told = c .before .before .before .before .before .before .before .before in
     rw (
-      yields (told .before .before),
+      demotes (told .before .before),
       told .hottest .given .1,
       ← told .before .before .before .before .before .before .record-at .ensures,
       lt-ltb _ _ (c .before .before .before .before .if2 .taken),
@@ -88,18 +88,18 @@ same-length-4 : tie.Need-same-length-4
 same-length-4 c = search needs
 
 returns-4 : tie.Need-returns-4
-unfolding yieldTo hotter places
+unfolding demoteFor hotter places
 returns-4 c =
     let told = c .before .before .before .before in
     rw (
-      yields (told .before .before),
+      demotes (told .before .before),
       told .hottest .given .1,
       ← told .before .before .before .before .before .before .record-at .ensures,
       le-ltb _ _ (c .if2 .left),
     )
 
-pub defend-spec : {M : Type 1} → statement M
-defend-spec =
+pub demote-spec : {M : Type 1} → statement M
+demote-spec =
     tie.close
     (tie.spec
     record-at-requires

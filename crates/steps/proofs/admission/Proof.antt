@@ -1,10 +1,10 @@
--- `steps::settle` meets its contract: the answer is that of the record as `admit` left it. Assumes nothing.
+-- `steps::admission` meets its contract: the answer is that of the record as `admit` left it. Assumes nothing.
 use borrow.Author.Needs.{needs}
 use Rattle.rules.specs.Bytes.{recordCount}
 use Rattle.rules.specs.Table.{places}
-use Rattle.rules.specs.Steps.{settle}
-use Rattle.steps.proofs.settle.Statement.{statement}
-use Rattle.steps.proofs.settle.Tie as tie
+use Rattle.rules.specs.Steps.{admission}
+use Rattle.steps.proofs.admission.Statement.{statement}
+use Rattle.steps.proofs.admission.Tie as tie
 
 admit-requires : tie.Need-admit-requires
 admit-requires c κs = search needs
@@ -20,9 +20,9 @@ same-length : tie.Need-same-length
 same-length c = search needs
 
 returns : tie.Need-returns
-unfolding settle places
+unfolding admission places
 returns c = (rw (← c .before .before .before .before .before .admit .ensures) (rw (c .read-answer .ensures .0, c .before .record-at .ensures)), c .read-answer .ensures .1)
 
-pub settle-spec : {M : Type 1} → statement M
-settle-spec =
+pub admission-spec : {M : Type 1} → statement M
+admission-spec =
     tie.close (tie.spec admit-requires record-at-requires read-answer-requires same-length returns)
