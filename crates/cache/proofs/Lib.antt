@@ -1,1 +1,2 @@
 pub mod Lined
+pub mod Said

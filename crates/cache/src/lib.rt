@@ -8,7 +8,8 @@ ghost use Rattle.rules.specs.Bytes.{recordAt, recordCount, lineSize};
 ghost use Rattle.rules.specs.Pass.{sumOf};
 ghost use Rattle.rules.specs.Table.{mostTotal};
 ghost use Rattle.rules.specs.Calls.{mostRecords, lent, left, started, freshOutcome, readOutcome, updateOutcome, fillOutcome, ageOutcome, showLine, levelledOutcome};
-ghost use Rattle.rules.specs.Answers.{numberOf};
+ghost use Rattle.rules.specs.Answers.{numberOf, completionSaid, levelsSaid};
+ghost use Rattle.rules.specs.Numbers.{readNumber, updateNumber, fillNumber, ageNumber, freshSaid, levelledSaid};
 ghost use Rattle.rules.specs.Steps.{outcome, fillSteps, level};
 ghost use Rattle.lines.specs.Room.{LinesFit};
 ghost use Rattle.cache.specs.Room.{LevelsFit};
@@ -56,6 +57,7 @@ fn clear(table: &mut [u8])
 // Starts a table: every record free, the gauge zero. The lines keep their bytes.
 pub fn fresh(table: &mut [u8], gauge: Gauge, lines: &[u8]) -> Started
     ensures { λ r. ⌜ started r (now (table .exit)) (now (lines .entry)) ≡ freshOutcome (lent (now (table .entry)) gauge (now (lines .entry))) ⌝ }
+    ensures { λ r. ⌜ completionSaid (r .answer) ≡ freshSaid (lent (now (table .entry)) gauge (now (lines .entry))) ⌝ }
 {
     if !sizes_good(table, lines) {
         return Started {
@@ -77,7 +79,8 @@ pub fn fresh(table: &mut [u8], gauge: Gauge, lines: &[u8]) -> Started
 
 // Counts weight pieces of a class, and answers where its picture is.
 pub fn read(table: &mut [u8], gauge: Gauge, lines: &[u8], key: u64, weight: u64) -> Reply
-    ensures { λ r. ⌜ left r (now (table .exit)) (now (lines .entry)) ≡ readOutcome (lent (now (table .entry)) gauge (now (lines .entry))) key weight ⌝ }
+    ensures { λ r. ⌜ (left r (now (table .exit)) (now (lines .entry)) ≡ readOutcome (lent (now (table .entry)) gauge (now (lines .entry))) key weight)
+        × (numberOf (r .answer) ≡ readNumber (lent (now (table .entry)) gauge (now (lines .entry))) key weight) ⌝ }
     ensures { λ r. ⌜ numberOf (r .answer) < 2 ^ 64 ⌝ }
 {
     let verdict = read_verdict(table, gauge, lines, weight);
@@ -92,7 +95,8 @@ pub fn read(table: &mut [u8], gauge: Gauge, lines: &[u8], key: u64, weight: u64)
 
 // Cools a class whose picture has changed, and empties its line.
 pub fn update(table: &mut [u8], gauge: Gauge, lines: &[u8], key: u64, weight: u64) -> Reply
-    ensures { λ r. ⌜ left r (now (table .exit)) (now (lines .entry)) ≡ updateOutcome (lent (now (table .entry)) gauge (now (lines .entry))) key weight ⌝ }
+    ensures { λ r. ⌜ (left r (now (table .exit)) (now (lines .entry)) ≡ updateOutcome (lent (now (table .entry)) gauge (now (lines .entry))) key weight)
+        × (numberOf (r .answer) ≡ updateNumber (lent (now (table .entry)) gauge (now (lines .entry))) key weight) ⌝ }
     ensures { λ r. ⌜ numberOf (r .answer) < 2 ^ 64 ⌝ }
 {
     let verdict = update_verdict(table, gauge, lines, weight);
@@ -107,7 +111,8 @@ pub fn update(table: &mut [u8], gauge: Gauge, lines: &[u8], key: u64, weight: u6
 
 // Halves every heat, total and ceiling downward and every slack upward.
 pub fn age(table: &mut [u8], gauge: Gauge, lines: &[u8]) -> Reply
-    ensures { λ r. ⌜ left r (now (table .exit)) (now (lines .entry)) ≡ ageOutcome (lent (now (table .entry)) gauge (now (lines .entry))) ⌝ }
+    ensures { λ r. ⌜ (left r (now (table .exit)) (now (lines .entry)) ≡ ageOutcome (lent (now (table .entry)) gauge (now (lines .entry))))
+        × (numberOf (r .answer) ≡ ageNumber (lent (now (table .entry)) gauge (now (lines .entry)))) ⌝ }
     ensures { λ r. ⌜ numberOf (r .answer) < 2 ^ 64 ⌝ }
 {
     let verdict = plain_verdict(table, gauge, lines);
@@ -165,7 +170,8 @@ fn fill_steps(table: &mut [u8], gauge: Gauge, lines: &mut [u8], key: u64, pictur
 
 // Stores the picture of a class into its line.
 pub fn fill(table: &mut [u8], gauge: Gauge, lines: &mut [u8], key: u64, picture: &[u8]) -> Answer
-    ensures { λ a. ⌜ outcome a (lent (now (table .exit)) gauge (now (lines .exit))) ≡ fillOutcome (lent (now (table .entry)) gauge (now (lines .entry))) key (now (picture .entry)) ⌝ }
+    ensures { λ a. ⌜ (outcome a (lent (now (table .exit)) gauge (now (lines .exit))) ≡ fillOutcome (lent (now (table .entry)) gauge (now (lines .entry))) key (now (picture .entry)))
+        × (numberOf a ≡ fillNumber (lent (now (table .entry)) gauge (now (lines .entry))) key (now (picture .entry))) ⌝ }
     ensures { λ a. ⌜ numberOf a < 2 ^ 64 ⌝ }
 {
     let verdict = fill_verdict(table, gauge, lines, picture);
@@ -228,6 +234,7 @@ fn sum_levels(part: &[u8], ceiling: u64, n: usize) -> u64
 // The sum, over all records, of the larger of heat and ceiling.
 pub fn levelled_sum(table: &[u8], gauge: Gauge, lines: &[u8]) -> Levels
     ensures { λ r. ⌜ r ≡ levelledOutcome (lent (now (table .entry)) gauge (now (lines .entry))) ⌝ }
+    ensures { λ r. ⌜ levelsSaid r ≡ levelledSaid (lent (now (table .entry)) gauge (now (lines .entry))) ⌝ }
 {
     let verdict = plain_verdict(table, gauge, lines);
     match verdict {

@@ -2,7 +2,9 @@
 ghost use mathlib.Core.Path.{_≡_};
 ghost use Prim.Native.Nat.{_+_, _≤_, _<_};
 ghost use lib.ListN.{length};
+ghost use Rattle.rules.specs.Answers.{entrySaid};
 ghost use Rattle.rules.specs.Journal.{entrySize, weightAt, zeros, gapsZero, ofForm, wholeEntry, decoded, entryAt};
+ghost use Rattle.rules.specs.Numbers.{saidAt};
 use records::LINE_SIZE;
 use records::get_u64;
 use rules::Decoded;
@@ -91,7 +93,7 @@ fn whole_entry(bytes: &[u8], at: usize) -> Entry
 
 // The record at a position and the position after it. One of unknown form is passed over; a short end and an end are stayed at.
 pub fn decode(bytes: &[u8], at: usize) -> Decoded
-    ensures { λ d. ⌜ d ≡ entryAt (now (bytes .entry)) at ⌝ }
+    ensures { λ d. ⌜ (d ≡ entryAt (now (bytes .entry)) at) × (entrySaid (d .entry) ≡ saidAt (now (bytes .entry)) at) ⌝ }
 {
     if bytes.len() <= at {
         return Decoded {
@@ -128,7 +130,8 @@ pub fn open<'a>(bytes: &'a [u8]) -> Reader<'a>
 // The next record. The reader moves to the position after it.
 pub fn next<'a>(reader: &mut Reader<'a>) -> Entry
     ensures { λ e. ⌜ (decoded e (now (reader .exit) .at) ≡ entryAt (now (now (reader .entry) .bytes)) (now (reader .entry) .at))
-        × (now (reader .exit) .bytes ≡ now (reader .entry) .bytes) ⌝ }
+        × (now (reader .exit) .bytes ≡ now (reader .entry) .bytes)
+        × (entrySaid e ≡ saidAt (now (now (reader .entry) .bytes)) (now (reader .entry) .at)) ⌝ }
 {
     let step = decode(reader.bytes, reader.at);
     reader.at = step.next;
@@ -137,7 +140,7 @@ pub fn next<'a>(reader: &mut Reader<'a>) -> Entry
 
 // One record through a reader, for callers with a plain slice.
 pub fn read_at(bytes: &[u8], at: usize) -> Decoded
-    ensures { λ r. ⌜ r ≡ entryAt (now (bytes .entry)) at ⌝ }
+    ensures { λ r. ⌜ (r ≡ entryAt (now (bytes .entry)) at) × (entrySaid (r .entry) ≡ saidAt (now (bytes .entry)) at) ⌝ }
 {
     let mut reader = Reader { bytes, at };
     let entry = next(&mut reader);

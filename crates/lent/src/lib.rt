@@ -1,14 +1,17 @@
 // The calls of a Rattle caller, who lends the gauge: each is updated where it lies. Thin functions over the cache's calls, which take
 // the gauge by value.
 ghost use mathlib.Core.Path.{_≡_};
+ghost use Rattle.rules.specs.Answers.{numberOf};
 ghost use Rattle.rules.specs.Steps.{outcome};
 ghost use Rattle.rules.specs.Calls.{lent, readOutcome, updateOutcome, ageOutcome};
+ghost use Rattle.rules.specs.Numbers.{readNumber, updateNumber, ageNumber};
 use rules::Answer;
 use rules::Gauge;
 
 // Counts weight pieces of a class, and answers where its picture is.
 pub fn read(table: &mut [u8], gauge: &mut Gauge, lines: &[u8], key: u64, weight: u64) -> Answer
-    ensures { λ a. ⌜ outcome a (lent (now (table .exit)) (now (gauge .exit)) (now (lines .entry))) ≡ readOutcome (lent (now (table .entry)) (now (gauge .entry)) (now (lines .entry))) key weight ⌝ }
+    ensures { λ a. ⌜ (outcome a (lent (now (table .exit)) (now (gauge .exit)) (now (lines .entry))) ≡ readOutcome (lent (now (table .entry)) (now (gauge .entry)) (now (lines .entry))) key weight)
+        × (numberOf a ≡ readNumber (lent (now (table .entry)) (now (gauge .entry)) (now (lines .entry))) key weight) ⌝ }
 {
     let before = *gauge;
     let reply = cache::read(table, before, lines, key, weight);
@@ -18,7 +21,8 @@ pub fn read(table: &mut [u8], gauge: &mut Gauge, lines: &[u8], key: u64, weight:
 
 // Cools a class whose picture has changed, and empties its line.
 pub fn update(table: &mut [u8], gauge: &mut Gauge, lines: &[u8], key: u64, weight: u64) -> Answer
-    ensures { λ a. ⌜ outcome a (lent (now (table .exit)) (now (gauge .exit)) (now (lines .entry))) ≡ updateOutcome (lent (now (table .entry)) (now (gauge .entry)) (now (lines .entry))) key weight ⌝ }
+    ensures { λ a. ⌜ (outcome a (lent (now (table .exit)) (now (gauge .exit)) (now (lines .entry))) ≡ updateOutcome (lent (now (table .entry)) (now (gauge .entry)) (now (lines .entry))) key weight)
+        × (numberOf a ≡ updateNumber (lent (now (table .entry)) (now (gauge .entry)) (now (lines .entry))) key weight) ⌝ }
 {
     let before = *gauge;
     let reply = cache::update(table, before, lines, key, weight);
@@ -28,7 +32,8 @@ pub fn update(table: &mut [u8], gauge: &mut Gauge, lines: &[u8], key: u64, weigh
 
 // Halves every heat, total and ceiling downward and every slack upward.
 pub fn age(table: &mut [u8], gauge: &mut Gauge, lines: &[u8]) -> Answer
-    ensures { λ a. ⌜ outcome a (lent (now (table .exit)) (now (gauge .exit)) (now (lines .entry))) ≡ ageOutcome (lent (now (table .entry)) (now (gauge .entry)) (now (lines .entry))) ⌝ }
+    ensures { λ a. ⌜ (outcome a (lent (now (table .exit)) (now (gauge .exit)) (now (lines .entry))) ≡ ageOutcome (lent (now (table .entry)) (now (gauge .entry)) (now (lines .entry))))
+        × (numberOf a ≡ ageNumber (lent (now (table .entry)) (now (gauge .entry)) (now (lines .entry)))) ⌝ }
 {
     let before = *gauge;
     let reply = cache::age(table, before, lines);

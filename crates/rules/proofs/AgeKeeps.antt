@@ -1,19 +1,21 @@
 -- An aging keeps the invariant: halving keeps orders, heats within slack, and a sum of halves is at most half the sum.
 -- Assumes nothing.
-use Prim.Native.Nat.{ℕ, zero, suc, _+_, _/_, _≤_, _<_, max}
+use Prim.Native.Nat.{ℕ, _+_, _/_, _≤_, _<_, max}
 use mathlib.Core.Path.{_≡_, refl, ap}
 use mathlib.Core.Bool.{Bool, true, false, _&&_, false≢true}
 use mathlib.Core.List.{List}
+use native.Mathlib.Nat.{le-of-eq}
 use native.Mathlib.Omega.{arith}
 use borrow.Author.Tests.{eq-eqb, eqb-true}
 use lib.Dec.{eqb}
 use Rattle.rules.specs.declared.Record.{Record}
 use Rattle.rules.specs.declared.Gauge.{Gauge}
-use Rattle.rules.specs.Pass.{if_then_else_, pass, sumOf}
+use Rattle.rules.specs.Pass.{if_then_else_, sumWhere}
 use Rattle.rules.specs.Table.{agedRecord, halfDown, halfUp, isFree, isZero, lineOf}
 use Rattle.rules.specs.Steps.{agedGauge, level}
-use Rattle.rules.specs.Demand3.{Truth, ageTruth}
+use Rattle.rules.specs.Replay.{Truth, ageTruth}
 use Rattle.rules.proofs.Bounds.{halved-not-below, halved-not-above}
+use Rattle.rules.proofs.Chosen.{where-halved}
 use Rattle.rules.proofs.SameLines.{same-lines-full}
 use Rattle.rules.proofs.Invariant.{Sound, Full, Hottest}
 
@@ -25,14 +27,6 @@ aged-level ceiling r = go (eqb (r .state) 0)
     go : (b : Bool) → max (if b then 0 else r .heat / 2) (ceiling / 2) ≡ max (if b then 0 else r .heat) ceiling / 2
     go true = omega arith
     go false = omega arith
-
--- a sum of halves is at most half the sum
-sum-halved : (a b : Record → ℕ) (f g : ℕ → Record) (n : ℕ) → ((i : ℕ) → i < n → a (f i) ≡ halfDown (b (g i))) →
-    sumOf a f n ≤ halfDown (sumOf b g n)
-unfolding sumOf pass halfDown
-sum-halved a b f g zero each = omega arith
-sum-halved a b f g (suc n) each =
-    omega (arith, sum-halved a b f g n (λ i below. each i (omega arith)), each n (omega arith))
 
 -- both of two tests still hold if each does
 both-keep : {a a′ b b′ : Bool} → (a ≡ true → a′ ≡ true) → (b ≡ true → b′ ≡ true) → (a && b) ≡ true → (a′ && b′) ≡ true
@@ -57,7 +51,7 @@ half-most x = omega arith
 
 module _ (f f′ : ℕ → Record) (n c : ℕ) (aged : (i : ℕ) → i < n → f′ i ≡ agedRecord (f i)) where
   pub age-sound : (g : Gauge) (shown : ℕ → List ℕ) (t : Truth) → Sound f n c g shown t → Sound f′ n c (agedGauge g) shown (ageTruth t)
-  unfolding agedGauge ageTruth agedRecord lineOf
+  unfolding agedGauge ageTruth agedRecord lineOf halfDown
   age-sound g shown t s =
       record {
         total-most = omega (arith, half-most (g .total), s .total-most);
@@ -70,12 +64,13 @@ module _ (f f′ : ℕ → Record) (n c : ℕ) (aged : (i : ℕ) → i < n → f
         not-below = λ i h. rw (aged i h) (λ u. halved-not-below _ _ (s .not-below i h u));
         not-above = λ i h. rw (aged i h) (λ u. halved-not-above _ _ _ (s .not-above i h u));
         untracked = λ key none. halved-not-below _ _ (s .untracked key (λ i h. rw (aged i h) at (none i h)));
-        levels =
+        few = s .few;
+        levels = λ chosen many.
             omega (
               arith,
-              sum-halved (level (halfDown (g .ceiling))) (level (g .ceiling)) f′ f n
-                  (λ i h. rw (aged i h) (aged-level (g .ceiling) (f i))),
-              halved-not-below (g .total) (sumOf (level (g .ceiling)) f n) (s .levels),
+              where-halved chosen (level (halfDown (g .ceiling))) (level (g .ceiling)) f′ f n
+                  (λ i h. rw (aged i h) (le-of-eq (aged-level (g .ceiling) (f i)))),
+              halved-not-below (g .total) (sumWhere chosen (level (g .ceiling)) f n) (s .levels chosen many),
             );
         total = ap halfDown (s .total);
         latest = λ i line h. rw (aged i h) (s .latest i line h);

@@ -1,7 +1,8 @@
 -- What the worked rows do not show, for any numbers: an aging keeps each heat within slack of the truth, an eviction never lowers the
--- ceiling, and no key is tracked in a fresh table. Assumes nothing.
+-- ceiling, no key is tracked in a fresh table, and the replay of an update forgets the picture. Assumes nothing.
 use Prim.Native.Nat.{ℕ, zero, suc, _+_, _≤_}
 use mathlib.Core.Path.{_≡_, refl}
+use mathlib.Core.Option.{none}
 use native.Mathlib.Nat.{le-max-left, le-max-right}
 use native.Mathlib.Omega.{arith}
 use lib.ListN.{length}
@@ -10,7 +11,9 @@ use Rattle.rules.specs.declared.Found.the-variants.{Nowhere}
 use Rattle.rules.specs.Pass.{pass, first, firstOf}
 use Rattle.rules.specs.Table.{Memory, isTracked, halfDown, halfUp, hasKey, keyRecord, places, freshMemory, withGauge, withTable, write}
 use Rattle.rules.specs.Steps.{raised, track, evict}
+use Rattle.rules.specs.Replay.{Truth, updateTruth}
 use Rattle.rules.proofs.Places.{record-zero}
+use Rattle.rules.proofs.Changes.{at-same}
 
 -- ---- heat, true heat and slack are halved
 pub halved-not-below : (heat true-heat : ℕ) → true-heat ≤ heat → halfDown true-heat ≤ halfDown heat
@@ -35,3 +38,9 @@ pub fresh-untracked : (m : Memory) (key n : ℕ) → keyRecord key (places (fres
 unfolding keyRecord firstOf pass first places freshMemory hasKey isTracked
 fresh-untracked m key zero = refl
 fresh-untracked m key (suc n) = rw (fresh-untracked m key n, record-zero (length (m .table)) n)
+
+-- ---- an update forgets the picture
+-- | Update, of a key tracked or not: .. its picture becomes none
+pub update-forgets : (t : Truth) (key w : ℕ) → updateTruth t key w .picture key ≡ none
+unfolding updateTruth
+update-forgets t key w = at-same key none (t .picture)

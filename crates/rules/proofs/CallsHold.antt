@@ -15,7 +15,7 @@ use Rattle.rules.specs.Pass.{if_then_else_}
 use Rattle.rules.specs.Table.{Memory, isLined, lineOf, emptyState, unlined, onEmptyLine, withState, lowestUnused, isUsed, coldestLined, hottestUnlined, hotter, places, size, lineTotal, withTable, withGauge, write}
 use Rattle.rules.specs.Steps.{aged, giveLine, handOver, replaceColdest, promote, admit, demoteFor, demote}
 use Rattle.rules.specs.Calls.{sizesGood}
-use Rattle.rules.specs.Demand3.{Truth, at, ageTruth}
+use Rattle.rules.specs.Replay.{Truth, at, ageTruth}
 use Rattle.rules.proofs.Words.{IsBytes}
 use Rattle.rules.proofs.Places.{IsRecord, recordAt-is}
 use Rattle.rules.proofs.Searches.{clash, lowest-fails, lowest-before}
@@ -65,7 +65,7 @@ pub at-is : (m : Memory) (i : ℕ) → IsBytes (m .table) → IsRecord (places m
 unfolding places
 at-is m i bytes = recordAt-is (m .table) i bytes
 
-on-line-is : (m : Memory) (i line : ℕ) → IsBytes (m .table) → line < 1024 → IsRecord (onEmptyLine line (places m i))
+pub on-line-is : (m : Memory) (i line : ℕ) → IsBytes (m .table) → line < 1024 → IsRecord (onEmptyLine line (places m i))
 unfolding onEmptyLine emptyState
 on-line-is m i line bytes few = with-state-is (places m i) _ (at-is m i bytes) (omega arith)
 
@@ -97,7 +97,7 @@ module _ (m : Memory) (a b : ℕ) (bytes : IsBytes (m .table)) (a-inside : a < s
   unfolding unlined
   unlined-is = with-state-is (places m a) 1 (at-is m a bytes) (omega arith)
 
-  places-hand : places (handOver m a b) ≡ handed (places m) a b
+  pub places-hand : places (handOver m a b) ≡ handed (places m) a b
   unfolding handOver giveLine
   places-hand =
       let m′ = write m a (unlined (places m a)) in
@@ -108,7 +108,7 @@ module _ (m : Memory) (a b : ℕ) (bytes : IsBytes (m .table)) (a-inside : a < s
       ∙ ap (λ (r : Record). at b (onEmptyLine (lineOf (places m a)) r) (places m′)) same
       ∙ ap (at b (onEmptyLine (lineOf (places m a)) (places m b))) e
 
-  size-hand : size (handOver m a b) ≡ size m
+  pub size-hand : size (handOver m a b) ≡ size m
   unfolding handOver giveLine
   size-hand = size-write _ b _ ∙ size-write m a _
 

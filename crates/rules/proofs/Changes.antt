@@ -5,7 +5,7 @@ use mathlib.Core.Path.{_≡_, refl}
 use mathlib.Core.Logic.{_≢_}
 use native.Mathlib.Decide.{ℕ-discrete}
 use borrow.Author.Tests.{eq-eqb, ne-eqb}
-use Rattle.rules.specs.Demand3.{at}
+use Rattle.rules.specs.Replay.{at}
 
 pub at-same : {A : Type 0} (i : ℕ) (v : A) (f : ℕ → A) → at i v f i ≡ v
 unfolding at

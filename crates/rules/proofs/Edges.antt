@@ -9,7 +9,7 @@ use Rattle.rules.specs.declared.Verdict.{Verdict}
 use Rattle.rules.specs.declared.Verdict.the-variants.{Accepted}
 use Rattle.rules.specs.Bytes.{recordSize, recordCount, lineSize, lineCount, putRecord}
 use Rattle.rules.specs.Table.{Memory}
-use Rattle.rules.specs.Calls.{lent, sizesGood, plainVerdict, readVerdict, fillVerdict, readOutcome, fillOutcome}
+use Rattle.rules.specs.Calls.{lent, sizesGood, plainVerdict, readVerdict, updateVerdict, fillVerdict, readOutcome, fillOutcome}
 use Rattle.rules.proofs.Computing.{computing}
 
 -- a fresh memory of k records and c lines, with a total
@@ -27,6 +27,11 @@ stated s =
 pub most-bytes-pass : sizesGood (replicate 32768 0) [] ≡ true
 unfolding sizesGood recordCount lineCount
 most-bytes-pass = refl
+
+-- with as many lines as it can have
+pub most-lines-pass : sizesGood (replicate 32768 0) (replicate 65472 0) ≡ true
+unfolding sizesGood recordCount lineCount
+most-lines-pass = refl
 
 pub more-bytes-refused : sizesGood (replicate 32800 0) [] ≡ false
 unfolding sizesGood recordCount lineCount
@@ -49,6 +54,19 @@ most-weight-passes = refl
 pub more-weight-refused : readVerdict (cleared 1 0 0) 65536 ≡ Verdict.Refused 2
 unfolding computing
 more-weight-refused = refl
+
+-- an update's weight has a test of its own
+pub update-most-weight-passes : updateVerdict (cleared 1 0 0) 65535 ≡ Accepted
+unfolding computing
+update-most-weight-passes = refl
+
+pub update-more-weight-refused : updateVerdict (cleared 1 0 0) 65536 ≡ Verdict.Refused 2
+unfolding computing
+update-more-weight-refused = refl
+
+pub update-no-weight-refused : updateVerdict (stated 4) 0 ≡ Verdict.Refused 2
+unfolding computing
+update-no-weight-refused = refl
 
 -- ---- | Total 4,294,967,294 and a read of 1: no aging; one more such read ages first and leaves 2,147,483,648.
 abbrev after-one : Memory
@@ -75,6 +93,14 @@ state-4-not = refl
 pub sizes-before-weight : readVerdict (cleared 1 1 0) 0 ≡ Verdict.Refused 1
 unfolding computing
 sizes-before-weight = refl
+
+pub sizes-before-update-weight : updateVerdict (cleared 1 1 0) 0 ≡ Verdict.Refused 1
+unfolding computing
+sizes-before-update-weight = refl
+
+pub sizes-before-picture : fillVerdict (cleared 1 1 0) [] ≡ Verdict.Refused 1
+unfolding computing
+sizes-before-picture = refl
 
 pub weight-before-order : readVerdict (stated 4) 0 ≡ Verdict.Refused 2
 unfolding computing

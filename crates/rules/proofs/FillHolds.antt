@@ -18,7 +18,7 @@ use Rattle.rules.specs.Table.{Memory, isLined, isFilled, lineOf, emptySt
 use Rattle.rules.specs.Answers.{isRefused}
 use Rattle.rules.specs.Steps.{store, fillSteps}
 use Rattle.rules.specs.Calls.{sizesGood}
-use Rattle.rules.specs.Demand3.{Truth, fillTruth}
+use Rattle.rules.specs.Replay.{Truth, fillTruth}
 use Rattle.rules.proofs.Places.{IsRecord, length-putLine}
 use Rattle.rules.proofs.Finds.{IsAt, key-found}
 use Rattle.rules.proofs.Invariant.{Holds}

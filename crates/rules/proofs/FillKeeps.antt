@@ -14,8 +14,8 @@ use Rattle.rules.specs.declared.Record.{Record}
 use Rattle.rules.specs.declared.Gauge.{Gauge}
 use Rattle.rules.specs.Table.{isFree, lineOf, emptyState, filledState, isZero, withState, filled}
 use Rattle.rules.specs.Steps.{level}
-use Rattle.rules.specs.Demand3.{Truth, at, fillTruth}
-use Rattle.rules.proofs.Searches.{sum-le}
+use Rattle.rules.specs.Replay.{Truth, at, fillTruth}
+use Rattle.rules.proofs.Chosen.{where-le}
 use Rattle.rules.proofs.Changes.{at-same, at-other, at-all}
 use Rattle.rules.proofs.SameLines.{SameLine, same-line-itself, same-line-state-most, same-lines-full}
 use Rattle.rules.proofs.Invariant.{Sound, Full, Hottest}
@@ -101,7 +101,9 @@ module _ (f : ℕ → Record) (n c i line : ℕ) (inside : i < n) (empty : f i .
         untracked =
             λ key none.
             s .untracked key (λ j below tracked e. none j below (omega (arith, alike j)) (alike j .key ∙ e));
-        levels = le-trans (sum-le _ _ after f n (λ j below. le-of-eq (alike-level (g .ceiling) (alike j)))) (s .levels);
+        few = s .few;
+        levels = λ chosen many.
+            le-trans (where-le chosen _ _ after f n (λ j below. le-of-eq (alike-level (g .ceiling) (alike j)))) (s .levels chosen many);
         total = s .total;
         latest =
             λ j k below.

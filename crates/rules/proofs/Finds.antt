@@ -1,5 +1,5 @@
 -- What the searches of document 01 find, in numbers: the key's record, the first free one, the victim, the coldest on a line and the
--- hottest without one. Assumes nothing.
+-- hottest without one; and what a record that is all zero says. Assumes nothing.
 use Prim.Native.Nat.{ℕ, _≤_, _<_}
 use mathlib.Core.Path.{_≡_, sym, _∙_, ap}
 use mathlib.Core.Bool.{true, false}
@@ -8,8 +8,17 @@ use native.Mathlib.Omega.{arith}
 use borrow.Author.Tests.{ltb-true, ltb-false, lt-ltb, le-ltb, eqb-true, eqb-false, eq-eqb}
 use Rattle.rules.specs.declared.Record.{Record}
 use Rattle.rules.specs.declared.Found.the-variants.{Nowhere, At}
-use Rattle.rules.specs.Table.{isFree, isTracked, isUnlined, isLined, hasKey, keyRecord, freeRecord, colder, hotter, victim, coldestLined, hottestUnlined}
-use Rattle.rules.proofs.Searches.{both, clash, first-at, first-nowhere, best-at, best-nowhere}
+use Rattle.rules.specs.Table.{isFree, isZero, isTracked, isUnlined, isLined, hasKey, keyRecord, freeRecord, colder, hotter, victim, coldestLined, hottestUnlined}
+use Rattle.rules.proofs.Searches.{both, clash, first-at, first-nowhere, IsBest, best-at, best-nowhere}
+
+-- | (all four numbers are 0)
+pub zero-says : (r : Record) → isZero r ≡ true → (r .key ≡ 0) × (r .heat ≡ 0) × (r .slack ≡ 0) × (r .state ≡ 0)
+unfolding isZero
+zero-says r e =
+    let (rest, state) = both _ _ e in
+    let (two, slack) = both _ _ rest in
+    let (key, heat) = both _ _ two in
+    (eqb-true _ _ key, eqb-true _ _ heat, eqb-true _ _ slack, eqb-true _ _ state)
 
 -- a place below n with its record, of which something holds
 pub record IsAt (f : ℕ → Record) (n i : ℕ) (r : Record) (P : Record → Type 0) : Type 0 where
@@ -44,34 +53,46 @@ module _ (f : ℕ → Record) (n : ℕ) where
   unfolding freeRecord isFree
   free-missing e j below = eqb-false _ _ (first-nowhere isFree f n e j below)
 
-  -- ---- the coldest without a line, the coldest on one, the hottest without one
-  colder-keeps : (r s t : Record) → colder r s ≡ true → colder t s ≡ false → colder t r ≡ false
+  -- ---- the coldest without a line, the coldest on one, the hottest without one: each the first among equals
+  colder-over : (r s t : Record) → colder r s ≡ true → colder t s ≡ false → colder r t ≡ true
   unfolding colder
-  colder-keeps r s t a b =
+  colder-over r s t a b =
       let p : r .heat < s .heat = ltb-true _ _ a in
       let q : s .heat ≤ t .heat = ltb-false _ _ b in
-      le-ltb (t .heat) (r .heat) (omega arith)
+      lt-ltb (r .heat) (t .heat) (omega arith)
+
+  colder-one-way : (r s : Record) → colder r s ≡ true → colder s r ≡ false
+  unfolding colder
+  colder-one-way r s a = let p : r .heat < s .heat = ltb-true _ _ a in le-ltb (s .heat) (r .heat) (omega arith)
 
   colder-never : (r : Record) → colder r r ≡ false
   unfolding colder
   colder-never r = le-ltb (r .heat) (r .heat) (omega arith)
 
-  hotter-keeps : (r s t : Record) → hotter r s ≡ true → hotter t s ≡ false → hotter t r ≡ false
+  hotter-over : (r s t : Record) → hotter r s ≡ true → hotter t s ≡ false → hotter r t ≡ true
   unfolding hotter
-  hotter-keeps r s t a b =
+  hotter-over r s t a b =
       let p : s .heat < r .heat = ltb-true _ _ a in
       let q : t .heat ≤ s .heat = ltb-false _ _ b in
-      le-ltb (r .heat) (t .heat) (omega arith)
+      lt-ltb (t .heat) (r .heat) (omega arith)
+
+  hotter-one-way : (r s : Record) → hotter r s ≡ true → hotter s r ≡ false
+  unfolding hotter
+  hotter-one-way r s a = let p : s .heat < r .heat = ltb-true _ _ a in le-ltb (r .heat) (s .heat) (omega arith)
 
   hotter-never : (r : Record) → hotter r r ≡ false
   unfolding hotter
   hotter-never r = le-ltb (r .heat) (r .heat) (omega arith)
 
+  pub victim-best : (i : ℕ) (r : Record) → victim f n ≡ At i r → IsBest isUnlined colder f n i r
+  unfolding victim
+  victim-best i r e = best-at isUnlined colder colder-over colder-one-way colder-never f n i r e
+
   pub victim-found : (i : ℕ) (r : Record) → victim f n ≡ At i r →
       IsAt f n i r (λ s. (s .state ≡ 1) × ((j : ℕ) → j < n → f j .state ≡ 1 → s .heat ≤ f j .heat))
   unfolding victim colder isUnlined
   victim-found i r e =
-      let h = best-at isUnlined colder colder-keeps colder-never f n i r e in
+      let h = victim-best i r e in
       record {
         inside = h .inside;
         is = h .is;
@@ -83,13 +104,17 @@ module _ (f : ℕ → Record) (n : ℕ) where
 
   pub victim-missing : victim f n ≡ Nowhere → (j : ℕ) → j < n → f j .state ≢ 1
   unfolding victim isUnlined
-  victim-missing e j below = eqb-false _ _ (best-nowhere isUnlined colder colder-keeps colder-never f n e j below)
+  victim-missing e j below = eqb-false _ _ (best-nowhere isUnlined colder colder-over colder-one-way colder-never f n e j below)
+
+  pub coldest-best : (i : ℕ) (r : Record) → coldestLined f n ≡ At i r → IsBest isLined colder f n i r
+  unfolding coldestLined
+  coldest-best i r e = best-at isLined colder colder-over colder-one-way colder-never f n i r e
 
   pub coldest-found : (i : ℕ) (r : Record) → coldestLined f n ≡ At i r →
       IsAt f n i r (λ s. (1 < s .state) × ((j : ℕ) → j < n → 1 < f j .state → s .heat ≤ f j .heat))
   unfolding coldestLined colder isLined
   coldest-found i r e =
-      let h = best-at isLined colder colder-keeps colder-never f n i r e in
+      let h = coldest-best i r e in
       record {
         inside = h .inside;
         is = h .is;
@@ -101,13 +126,17 @@ module _ (f : ℕ → Record) (n : ℕ) where
 
   pub coldest-missing : coldestLined f n ≡ Nowhere → (j : ℕ) → j < n → f j .state ≤ 1
   unfolding coldestLined isLined
-  coldest-missing e j below = ltb-false _ _ (best-nowhere isLined colder colder-keeps colder-never f n e j below)
+  coldest-missing e j below = ltb-false _ _ (best-nowhere isLined colder colder-over colder-one-way colder-never f n e j below)
+
+  pub hottest-best : (i : ℕ) (r : Record) → hottestUnlined f n ≡ At i r → IsBest isUnlined hotter f n i r
+  unfolding hottestUnlined
+  hottest-best i r e = best-at isUnlined hotter hotter-over hotter-one-way hotter-never f n i r e
 
   pub hottest-found : (i : ℕ) (r : Record) → hottestUnlined f n ≡ At i r →
       IsAt f n i r (λ s. (s .state ≡ 1) × ((j : ℕ) → j < n → f j .state ≡ 1 → f j .heat ≤ s .heat))
   unfolding hottestUnlined hotter isUnlined
   hottest-found i r e =
-      let h = best-at isUnlined hotter hotter-keeps hotter-never f n i r e in
+      let h = hottest-best i r e in
       record {
         inside = h .inside;
         is = h .is;
@@ -119,4 +148,4 @@ module _ (f : ℕ → Record) (n : ℕ) where
 
   pub hottest-missing : hottestUnlined f n ≡ Nowhere → (j : ℕ) → j < n → f j .state ≢ 1
   unfolding hottestUnlined isUnlined
-  hottest-missing e j below = eqb-false _ _ (best-nowhere isUnlined hotter hotter-keeps hotter-never f n e j below)
+  hottest-missing e j below = eqb-false _ _ (best-nowhere isUnlined hotter hotter-over hotter-one-way hotter-never f n e j below)

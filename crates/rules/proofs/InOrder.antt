@@ -16,7 +16,7 @@ use Rattle.rules.specs.declared.Gauge.{Gauge}
 use Rattle.rules.specs.declared.Found.the-variants.{Nowhere}
 use Rattle.rules.specs.Pass.{if_then_else_, pass, sumOf, countOf}
 use Rattle.rules.specs.Table.{isTracked, isLined, lineOf, recordInOrder, inOrder, freeRecord, victim, mostTotal}
-use Rattle.rules.specs.Demand3.{Truth}
+use Rattle.rules.specs.Replay.{Truth}
 use Rattle.rules.proofs.Searches.{both, all-at, all-of, sum-most, sum-le, count-below}
 use Rattle.rules.proofs.Finds.{free-missing, victim-missing}
 use Rattle.rules.proofs.Invariant.{Sound}

@@ -2,18 +2,18 @@
 -- knows a byte. Records are said by the numbers of their states: 0 free, 1 without a line, 2 and over on a line.
 use Prim.Native.Nat.{ℕ, _+_, _*_, _≤_, _<_}
 use mathlib.Core.Path.{_≡_}
-use mathlib.Core.Bool.{true, false}
+use mathlib.Core.Bool.{Bool, true, false}
 use mathlib.Core.List.{List}
 use mathlib.Core.Logic.{_≢_}
 use mathlib.Core.Option.{some}
 use Rattle.rules.specs.declared.Record.{Record}
 use Rattle.rules.specs.declared.Gauge.{Gauge}
 use Rattle.rules.specs.Bytes.{lineAt}
-use Rattle.rules.specs.Pass.{sumOf}
+use Rattle.rules.specs.Pass.{sumWhere, countWhere}
 use Rattle.rules.specs.Table.{Memory, lineOf, filledState, isZero, isUsed, mostTotal, places, size, lineTotal}
 use Rattle.rules.specs.Steps.{level}
 use Rattle.rules.specs.Calls.{sizesGood}
-use Rattle.rules.specs.Demand3.{Truth}
+use Rattle.rules.specs.Replay.{Truth}
 use Rattle.rules.proofs.Words.{IsBytes}
 
 -- Of n records f, c lines, the gauge, what the lines show, and the truth.
@@ -31,7 +31,9 @@ pub record Sound (f : ℕ → Record) (n c : ℕ) (g : Gauge) (shown : ℕ → L
   pub not-below : (i : ℕ) → i < n → 0 < f i .state → t .heat (f i .key) ≤ f i .heat
   pub not-above : (i : ℕ) → i < n → 0 < f i .state → f i .heat ≤ t .heat (f i .key) + f i .slack
   pub untracked : (key : ℕ) → ((i : ℕ) → i < n → 0 < f i .state → f i .key ≢ key) → t .heat key ≤ g .ceiling
-  pub levels : sumOf (level (g .ceiling)) f n ≤ g .total
+  -- the levels of any such choice of places
+  pub few : t .fewest ≡ n
+  pub levels : (chosen : ℕ → Bool) → countWhere chosen n ≡ t .fewest → sumWhere chosen (level (g .ceiling)) f n ≤ g .total
   pub total : g .total ≡ t .total
   pub latest : (i line : ℕ) → i < n → f i .state ≡ filledState line → t .picture (f i .key) ≡ some (shown line)
 

@@ -5,6 +5,7 @@ pub mod Words
 pub mod Places
 pub mod Bounds
 pub mod Searches
+pub mod Chosen
 pub mod Invariant
 pub mod Changes
 pub mod SameLines
@@ -22,9 +23,9 @@ pub mod UpdateHolds
 pub mod FillHolds
 pub mod Verdicts
 pub mod FreshHolds
-pub mod EveryList
 pub mod Refusals
-pub mod SampleList
-pub mod Idle
+pub mod Numbers
+pub mod Answered
 pub mod Edges
+pub mod Examples
 pub mod Pieces

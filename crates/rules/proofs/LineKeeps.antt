@@ -14,8 +14,9 @@ use Rattle.rules.specs.declared.Record.{Record}
 use Rattle.rules.specs.declared.Gauge.{Gauge}
 use Rattle.rules.specs.Table.{isFree, isZero, isLined, isOn, lineOf, emptyState, filledState, withState, unlined, onEmptyLine, isUsed}
 use Rattle.rules.specs.Steps.{level}
-use Rattle.rules.specs.Demand3.{Truth, at}
-use Rattle.rules.proofs.Searches.{clash, any-at, any-none, sum-le}
+use Rattle.rules.specs.Replay.{Truth, at}
+use Rattle.rules.proofs.Searches.{clash, any-at, any-none}
+use Rattle.rules.proofs.Chosen.{where-le}
 use Rattle.rules.proofs.Changes.{at-same, at-other, at-all}
 use Rattle.rules.proofs.Invariant.{Sound, Full, FullBut, Hottest, HottestBut, HottestOver}
 
@@ -113,11 +114,12 @@ module _ (f : ℕ → Record) (n c i state : ℕ) (inside : i < n) (was : 0 < f 
         not-above = λ j below tracked.
             rw (kept j .key, kept j .heat, kept j .slack) (s .not-above j below (before j tracked));
         untracked = λ key none. s .untracked key (λ j below tracked. rw (kept j .key) at (none j below (after j tracked)));
-        levels =
+        few = s .few;
+        levels = λ chosen many.
             omega (
               arith,
-              s .levels,
-              sum-le (level (g .ceiling)) (level (g .ceiling)) stated f n
+              s .levels chosen many,
+              where-le chosen (level (g .ceiling)) (level (g .ceiling)) stated f n
                   (λ j below. kept-level (g .ceiling) (f j) (stated j) (kept j)),
             );
         total = s .total;

@@ -11,7 +11,7 @@ use Rattle.rules.specs.Bytes.{recordSize, recordCount, lineSize, lineCou
 use Rattle.rules.specs.Table.{Memory, agedRecord, halfDown, halfUp, places, size, withTable, withGauge, write}
 use Rattle.rules.specs.Steps.{aged}
 use Rattle.rules.specs.Calls.{sizesGood, mostRecords}
-use Rattle.rules.specs.Demand3.{at}
+use Rattle.rules.specs.Replay.{at}
 use borrow.Author.Tests.{eqb-true, leb-true, ltb-true}
 use Rattle.rules.proofs.Searches.{both}
 use Rattle.rules.proofs.Words.{IsBytes}

@@ -16,7 +16,7 @@ use Rattle.rules.specs.Pass.{if_then_else_}
 use Rattle.rules.specs.Table.{Memory, isFree, isZero, heated, withHeat, newRecord, keyRecord, freeRecord, victim, halfDown, mostTotal, places, size, lineTotal, withTable, withGauge, write}
 use Rattle.rules.specs.Steps.{aged, agedGauge, decayFor, grown, track, raised, evict, admission, place, readCounted, readSteps, level}
 use Rattle.rules.specs.Calls.{mostWeight}
-use Rattle.rules.specs.Demand3.{Truth, at, ageTruth, grownTruth, readTruth}
+use Rattle.rules.specs.Replay.{Truth, ageTruth, grownTruth, readTruth}
 use Rattle.rules.proofs.Places.{IsRecord, recordAt-is}
 use Rattle.rules.proofs.Searches.{both}
 use Rattle.rules.proofs.Finds.{key-found, key-missing, free-found, free-missing, victim-found}
@@ -35,7 +35,7 @@ admitted m t i r inside is tracked h =
     admit-holds (write m i r) t i h (rw (size-write m i r) inside)
     (rw (places-write m i r inside is, at-same i r (places m)) tracked)
 
-heated-is : (w : ℕ) (r : Record) → IsRecord r → r .heat + w < 2 ^ 64 → IsRecord (heated w r)
+pub heated-is : (w : ℕ) (r : Record) → IsRecord r → r .heat + w < 2 ^ 64 → IsRecord (heated w r)
 unfolding heated withHeat
 heated-is w r is hot = record { key = is .key; heat = hot; slack = is .slack; state = is .state }
 
@@ -43,7 +43,7 @@ heated-tracked : (w : ℕ) (r : Record) → 0 < r .state → 0 < heated w r .sta
 unfolding heated withHeat
 heated-tracked w r tracked = tracked
 
-new-is : (key ceiling w : ℕ) → key < 2 ^ 64 → ceiling + w < 2 ^ 64 → IsRecord (newRecord key ceiling w)
+pub new-is : (key ceiling w : ℕ) → key < 2 ^ 64 → ceiling + w < 2 ^ 64 → IsRecord (newRecord key ceiling w)
 unfolding newRecord
 new-is key ceiling w fits hot = record { key = fits; heat = hot; slack = omega arith; state = omega arith }
 

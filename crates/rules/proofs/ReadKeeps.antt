@@ -1,7 +1,7 @@
 -- Steps 1 to 4 of a read keep the invariant, but that the read class may wait for a line, and may be hotter than one on a line. Each
 -- puts one record at one place: what that record must be is said once, and each shown to put such a record. Assumes nothing.
 use Prim.Native.Nat.{ℕ, _+_, _*_, _≤_, _<_, max}
-use mathlib.Core.Path.{_≡_, refl, sym, _∙_, ap}
+use mathlib.Core.Path.{_≡_, refl, sym, _∙_}
 use mathlib.Core.Bool.{Bool, true, false}
 use mathlib.Core.List.{List}
 use mathlib.Core.Logic.{_≢_}
@@ -14,8 +14,9 @@ use Rattle.rules.specs.declared.Gauge.{Gauge}
 use Rattle.rules.specs.Pass.{if_then_else_}
 use Rattle.rules.specs.Table.{heated, withHeat, newRecord, mostTotal, lineOf, filledState, isZero, isFree, isLined, isOn, isUsed}
 use Rattle.rules.specs.Steps.{level}
-use Rattle.rules.specs.Demand3.{Truth, at, grownTruth}
-use Rattle.rules.proofs.Searches.{sum-change, sum-le, any-none, none-any}
+use Rattle.rules.specs.Replay.{Truth, at, grownTruth}
+use Rattle.rules.proofs.Searches.{any-none, none-any}
+use Rattle.rules.proofs.Chosen.{where-more}
 use Rattle.rules.proofs.Changes.{at-same, at-other, at-all}
 use Rattle.rules.proofs.Invariant.{Sound, Full, FullBut, Hottest, HottestBut}
 
@@ -121,12 +122,14 @@ module _ (f : ℕ → Record) (n c : ℕ) (i : ℕ) (inside : i < n) where
               (λ _. rw at-same (h .not-above))
               (λ j l d tracked. rw (at-other (r .key) (f j .key) _ (t .heat) (h .key-apart j l d tracked)) (s .not-above j l tracked));
           untracked = count-untracked w ceiling g shown t h s;
-          levels =
+          few = s .few;
+          levels = λ chosen many.
               omega (
                 arith,
-                sum-change (level ceiling) f (at i r f) n i inside (λ j _ d. sym (at-other i j r f d)),
-                sum-le (level ceiling) (level (g .ceiling)) f f n (h .lower),
-                ap (level ceiling) (at-same i r f),
+                where-more chosen (level ceiling) (level (g .ceiling)) (at i r f) f n i w
+                    (λ j l d. rw (at-other i j r f d) (h .lower j l))
+                    (rw (at-same i r f) (omega (arith, h .level-here, h .lower i inside))),
+                s .levels chosen many,
               );
           total = cc;
           latest =

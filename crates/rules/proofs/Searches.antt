@@ -1,7 +1,7 @@
--- Laws of the passes over a table, once for every test and order: what a search that found a place says of it and of every other,
--- what it says where it found none, and how sums and counts take a change at one place. Each by induction on the records passed.
+-- Laws of the passes, once for every test and order: what a search that found a place says of it and of every other, what it says
+-- where it found none, and how sums and counts compare by place. Each by induction on the elements passed.
 -- Assumes nothing.
-use Prim.Native.Nat.{ℕ, zero, suc, _+_, _*_, _≤_, _<_}
+use Prim.Native.Nat.{ℕ, zero, suc, _+_, _*_, _/_, _≤_, _<_}
 use mathlib.Core.Path.{_≡_, refl, sym, _∙_, ap}
 use mathlib.Core.Bool.{Bool, true, false, _&&_, true≢false}
 use mathlib.Core.Logic.{_≢_}
@@ -24,7 +24,7 @@ up-to : (P : ℕ → Type 0) (n : ℕ) → ((i : ℕ) → i < n → P i) → P n
 up-to P n below here i h = elim (ℕ-discrete i n) [ yes e ↦ rw e here | no e ↦ below i (omega arith) ]
 
 -- a pass looks at the records below n alone
-pub pass-same : {A : Type 0} (step : A → ℕ → Record → A) (held : A) (f g : ℕ → Record) (n : ℕ) →
+pub pass-same : {A B : Type 0} (step : A → ℕ → B → A) (held : A) (f g : ℕ → B) (n : ℕ) →
     ((i : ℕ) → i < n → f i ≡ g i) → pass step held f n ≡ pass step held g n
 unfolding pass
 pass-same step held f g zero same = refl
@@ -76,69 +76,97 @@ module _ (test : Record → Bool) (f : ℕ → Record) where
           let e : j ≡ i = omega arith in
           cc
 
--- ---- the best that passes a test, where what does not beat the old best does not beat a better one
-module _ (test : Record → Bool) (beats : Record → Record → Bool)
-    (keeps : (r s t : Record) → beats r s ≡ true → beats t s ≡ false → beats t r ≡ false)
-    (never : (r : Record) → beats r r ≡ false) (f : ℕ → Record) where
+-- ---- the best that passes a test, first among equals
+module _ (test : Record → Bool) (beats : Record → Record → Bool) (f : ℕ → Record) where
   pub record IsBest (n i : ℕ) (r : Record) : Type 0 where
     pub inside : i < n
     pub is : r ≡ f i
     pub passes : test r ≡ true
     pub unbeaten : (j : ℕ) → j < n → test (f j) ≡ true → beats (f j) r ≡ false
+    -- it beats all before it, so no equal stands before it
+    pub before : (j : ℕ) → j < i → test (f j) ≡ true → beats r (f j) ≡ true
 
   -- what a search of n records says, by what it found
   abbrev Best : ℕ → Found → Type 0
   Best n Nowhere = (i : ℕ) → i < n → test (f i) ≡ false
   Best n (At i r) = IsBest n i r
 
-  best-step : (n : ℕ) (x : Found) → Best n x → Best (suc n) (best test beats x n (f n))
+-- in an order by which what beats another beats all that do not beat that other
+module _ (test : Record → Bool) (beats : Record → Record → Bool)
+    (over : (r s t : Record) → beats r s ≡ true → beats t s ≡ false → beats r t ≡ true)
+    (one-way : (r s : Record) → beats r s ≡ true → beats s r ≡ false)
+    (never : (r : Record) → beats r r ≡ false) (f : ℕ → Record) where
+  best-step : (n : ℕ) (x : Found) → Best test beats f n x → Best test beats f (suc n) (best test beats x n (f n))
   unfolding best
   best-step n Nowhere none = go (test (f n)) refl
     where
-      go : (b : Bool) → test (f n) ≡ b → Best (suc n) (if b then At n (f n) else Nowhere)
+      go : (b : Bool) → test (f n) ≡ b → Best test beats f (suc n) (if b then At n (f n) else Nowhere)
       go true e =
           record {
             inside = omega arith;
             is = refl;
             passes = e;
             unbeaten = up-to _ n (λ j below passes. clash passes (none j below)) (λ passes. never (f n));
+            before = λ j below passes. clash passes (none j below);
           }
       go false e = up-to _ n none e
   best-step n (At i r) h = go (test (f n)) (beats (f n) r) refl refl
     where
-      kept : (test (f n) ≡ true → beats (f n) r ≡ false) → IsBest (suc n) i r
+      kept : (test (f n) ≡ true → beats (f n) r ≡ false) → IsBest test beats f (suc n) i r
       kept last =
-          record { inside = omega arith; is = h .is; passes = h .passes; unbeaten = up-to _ n (h .unbeaten) last }
+          record {
+            inside = omega arith;
+            is = h .is;
+            passes = h .passes;
+            unbeaten = up-to _ n (h .unbeaten) last;
+            before = h .before;
+          }
 
-      go : (b w : Bool) → test (f n) ≡ b → beats (f n) r ≡ w → Best (suc n) (if b && w then At n (f n) else At i r)
+      go : (b w : Bool) → test (f n) ≡ b → beats (f n) r ≡ w → Best test beats f (suc n) (if b && w then At n (f n) else At i r)
       go true true e wins =
+          let beaten : (j : ℕ) → j < n → test (f j) ≡ true → beats (f n) (f j) ≡ true =
+          λ j below passes. over (f n) r (f j) wins (h .unbeaten j below passes) in
           record {
             inside = omega arith;
             is = refl;
             passes = e;
-            unbeaten =
-                up-to _ n (λ j below passes. keeps (f n) r (f j) wins (h .unbeaten j below passes)) (λ passes. never (f n));
+            unbeaten = up-to _ n (λ j below passes. one-way (f n) (f j) (beaten j below passes)) (λ passes. never (f n));
+            before = beaten;
           }
       go true false e loses = kept (λ passes. loses)
       go false w e any = kept (λ passes. clash passes e)
 
-  best-is : (n : ℕ) → Best n (bestOf test beats f n)
+  best-is : (n : ℕ) → Best test beats f n (bestOf test beats f n)
   unfolding bestOf pass
   best-is zero = λ i below. absurd (omega arith)
   best-is (suc n) = best-step n (bestOf test beats f n) (best-is n)
 
-  pub best-at : (n i : ℕ) (r : Record) → bestOf test beats f n ≡ At i r → IsBest n i r
+  pub best-at : (n i : ℕ) (r : Record) → bestOf test beats f n ≡ At i r → IsBest test beats f n i r
   best-at n i r e = rw e at (best-is n)
 
   pub best-nowhere : (n : ℕ) → bestOf test beats f n ≡ Nowhere → (i : ℕ) → i < n → test (f i) ≡ false
   best-nowhere n e = rw e at (best-is n)
+
+  -- there is one such place, and it is found
+  pub best-found : (n i : ℕ) → IsBest test beats f n i (f i) → bestOf test beats f n ≡ At i (f i)
+  best-found n i b = go (bestOf test beats f n) (best-is n)
+    where
+      go : (x : Found) → Best test beats f n x → x ≡ At i (f i)
+      go Nowhere none = clash (b .passes) (none i (b .inside))
+      go (At j r) h =
+          let passes : test (f j) ≡ true = ap test (sym (h .is)) ∙ h .passes in
+          let not-before : ¬ (j < i) = λ l. clash (b .before j l passes) (ap (beats (f i)) (sym (h .is)) ∙ h .unbeaten i (b .inside) (b .passes)) in
+          let not-after : ¬ (i < j) =
+          λ l. clash (ap (λ (s : Record). beats s (f i)) (sym (h .is)) ∙ h .before i l (b .passes)) (b .unbeaten j (h .inside) passes) in
+          let e : j ≡ i = omega arith in
+          cc
 
 -- ---- all and any
 pub both : (a b : Bool) → (a && b) ≡ true → (a ≡ true) × (b ≡ true)
 both true b e = (refl, e)
 both false b e = clash e refl
 
-module _ (test : Record → Bool) (f : ℕ → Record) where
+module _ {B : Type 0} (test : B → Bool) (f : ℕ → B) where
   pub all-at : (n : ℕ) → allOf test f n ≡ true → (i : ℕ) → i < n → test (f i) ≡ true
   unfolding allOf pass
   all-at zero e = λ i below. absurd (omega arith)
@@ -229,50 +257,51 @@ module _ (test : ℕ → Bool) where
       omega (arith, lowest-within n)
 
 -- ---- sums and counts
-module _ (amount : Record → ℕ) where
-  pub sum-split : (f : ℕ → Record) (a b : ℕ) → sumOf amount f (a + b) ≡ sumOf amount f a + sumOf amount (λ i. f (a + i)) b
+module _ {B : Type 0} (amount : B → ℕ) where
+  pub sum-split : (f : ℕ → B) (a b : ℕ) → sumOf amount f (a + b) ≡ sumOf amount f a + sumOf amount (λ i. f (a + i)) b
   unfolding sumOf pass
   sum-split f a zero = rw (add-zero a) (omega arith)
   sum-split f a (suc b) = rw add-suc (omega (arith, sum-split f a b))
 
-  pub sum-least : (f : ℕ → Record) (n least : ℕ) → ((i : ℕ) → i < n → least ≤ amount (f i)) → n * least ≤ sumOf amount f n
+  pub sum-least : (f : ℕ → B) (n least : ℕ) → ((i : ℕ) → i < n → least ≤ amount (f i)) → n * least ≤ sumOf amount f n
   unfolding sumOf pass
   sum-least f zero least each = omega arith
   sum-least f (suc n) least each =
       rw (suc-mul n least) (omega (arith, sum-least f n least (λ i below. each i (omega arith)), each n (omega arith)))
 
-  pub sum-most : (f : ℕ → Record) (n most : ℕ) → ((i : ℕ) → i < n → amount (f i) ≤ most) → sumOf amount f n ≤ n * most
+  pub sum-most : (f : ℕ → B) (n most : ℕ) → ((i : ℕ) → i < n → amount (f i) ≤ most) → sumOf amount f n ≤ n * most
   unfolding sumOf pass
   sum-most f zero most each = omega arith
   sum-most f (suc n) most each =
       rw suc-mul (omega (arith, sum-most f n most (λ i below. each i (omega arith)), each n (omega arith)))
 
-  -- a sum whose records change at one place alone
-  pub sum-change : (f g : ℕ → Record) (n i : ℕ) → i < n → ((j : ℕ) → j < n → j ≢ i → f j ≡ g j) →
-      sumOf amount g n + amount (f i) ≡ sumOf amount f n + amount (g i)
+-- sums by place: each amount at most another, at most half another, or at most another but for w more at one place
+module _ {B : Type 0} (a b : B → ℕ) (f g : ℕ → B) where
+  pub sum-le : (n : ℕ) → ((i : ℕ) → i < n → a (f i) ≤ b (g i)) → sumOf a f n ≤ sumOf b g n
   unfolding sumOf pass
-  sum-change f g zero i below same = absurd (omega arith)
-  sum-change f g (suc n) i below same =
-      elim (ℕ-discrete i n) [
-        | yes e ↦ rw (e, pass-same {A = ℕ} _ 0 f g n (λ j l. same j (omega arith) (omega arith))) (omega arith)
-        | no e ↦ omega (
-          arith,
-          sum-change f g n i (omega arith) (λ j l. same j (omega arith)),
-          ap amount (same n (omega arith) (omega arith)),
-        )
-      ]
+  sum-le zero each = omega arith
+  sum-le (suc n) each = omega (arith, sum-le n (λ i below. each i (omega arith)), each n (omega arith))
 
--- sums by place: each amount at most another
-pub sum-le : (a b : Record → ℕ) (f g : ℕ → Record) (n : ℕ) → ((i : ℕ) → i < n → a (f i) ≤ b (g i)) → sumOf a f n ≤ sumOf b g n
-unfolding sumOf pass
-sum-le a b f g zero each = omega arith
-sum-le a b f g (suc n) each = omega (arith, sum-le a b f g n (λ i below. each i (omega arith)), each n (omega arith))
+  pub sum-halved : (n : ℕ) → ((i : ℕ) → i < n → a (f i) ≤ b (g i) / 2) → sumOf a f n ≤ sumOf b g n / 2
+  unfolding sumOf pass
+  sum-halved zero each = omega arith
+  sum-halved (suc n) each = omega (arith, sum-halved n (λ i below. each i (omega arith)), each n (omega arith))
+
+  pub sum-more : (n i w : ℕ) → ((j : ℕ) → j < n → j ≢ i → a (f j) ≤ b (g j)) → a (f i) ≤ b (g i) + w →
+      sumOf a f n ≤ sumOf b g n + w
+  unfolding sumOf pass
+  sum-more zero i w each here = omega arith
+  sum-more (suc n) i w each here =
+      elim (ℕ-discrete n i) [
+        | yes e ↦ omega (arith, sum-le n (λ j below. each j (omega arith) (omega arith)), rw (← e) at here)
+        | no e ↦ omega (arith, sum-more n i w (λ j below. each j (omega arith)) here, each n (omega arith) e)
+      ]
 
 at-most-one : (b : Bool) → (if b then 1 else 0) ≤ 1
 at-most-one true = omega arith
 at-most-one false = omega arith
 
-module _ (test : Record → Bool) (f : ℕ → Record) where
+module _ {B : Type 0} (test : B → Bool) (f : ℕ → B) where
   pub count-within : (n : ℕ) → countOf test f n ≤ n
   unfolding countOf
   count-within n = rw mul-one at (sum-most (λ r. if test r then 1 else 0) f n 1 (λ i below. at-most-one (test (f i))))

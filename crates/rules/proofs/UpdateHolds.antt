@@ -12,7 +12,7 @@ use Rattle.rules.specs.Bytes.{lineAt}
 use Rattle.rules.specs.Pass.{if_then_else_}
 use Rattle.rules.specs.Table.{Memory, isLined, lineOf, emptyState, withHeat, withState, cooled, onEmptyLine, emptied, keyRecord, places, size, lineTotal, write}
 use Rattle.rules.specs.Steps.{change, updateSteps}
-use Rattle.rules.specs.Demand3.{Truth, updateTruth}
+use Rattle.rules.specs.Replay.{Truth, updateTruth}
 use Rattle.rules.proofs.Places.{IsRecord}
 use Rattle.rules.proofs.Finds.{key-found, key-missing}
 use Rattle.rules.proofs.Invariant.{Full, HottestOver, Holds}

@@ -15,9 +15,9 @@ use Rattle.rules.specs.declared.Gauge.{Gauge}
 use Rattle.rules.specs.Pass.{if_then_else_}
 use Rattle.rules.specs.Table.{cooled, emptied, emptyState, filledState, isFree, isLined, isZero, lineOf, onEmptyLine, withHeat, withState}
 use Rattle.rules.specs.Steps.{level}
-use Rattle.rules.specs.Demand3.{Truth, at, updateTruth}
+use Rattle.rules.specs.Replay.{Truth, at, updateTruth}
 use Rattle.rules.proofs.Changes.{at-same, at-other, at-all}
-use Rattle.rules.proofs.Searches.{sum-le}
+use Rattle.rules.proofs.Chosen.{where-le}
 use Rattle.rules.proofs.SameLines.{SameLine, same-lines-full}
 use Rattle.rules.proofs.Invariant.{Sound, Full, Hottest, HottestOver}
 
@@ -103,11 +103,12 @@ module _ (f : ℕ → Record) (n c i w : ℕ) (inside : i < n) (tracked : 0 < f 
               update-lowers t (f i .key) w key,
               s .untracked key (λ j h u e. none j h (omega (arith, each j)) (each j .key ∙ e)),
             );
-        levels =
+        few = s .few;
+        levels = λ chosen many.
             omega (
               arith,
-              sum-le (level (g .ceiling)) (level (g .ceiling)) f′ f n (λ j h. eased-level (g .ceiling) (f j) (f′ j) (each j)),
-              s .levels,
+              where-le chosen (level (g .ceiling)) (level (g .ceiling)) f′ f n (λ j h. eased-level (g .ceiling) (f j) (f′ j) (each j)),
+              s .levels chosen many,
             );
         total = s .total;
         latest = λ j line h.
@@ -144,6 +145,7 @@ unknown-sound f n c key w g shown t untracked s =
       not-below = λ j h u. omega (arith, update-lowers t key w (f j .key), s .not-below j h u);
       not-above = λ j h u. rw (at-other key (f j .key) _ _ (untracked j h u)) (s .not-above j h u);
       untracked = λ k none. omega (arith, update-lowers t key w k, s .untracked k none);
+      few = s .few;
       levels = s .levels;
       total = s .total;
       latest = λ j line h e. rw (at-other key (f j .key) _ _ (untracked j h (omega arith))) (s .latest j line h e);

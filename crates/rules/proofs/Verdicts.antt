@@ -3,12 +3,14 @@ use Prim.Native.Nat.{ℕ, _≤_}
 use mathlib.Core.Path.{_≡_, refl}
 use mathlib.Core.Bool.{Bool, true, false, true≢false}
 use mathlib.Core.List.{List, _∷_}
+use mathlib.Core.Option.{none}
 use native.Mathlib.Omega.{arith}
 use borrow.Author.Tests.{leb-true, eqb-true}
 use lib.ListN.{length}
 use lib.Dec.{leb}
 use Rattle.rules.specs.declared.Answer.{Answer}
 use Rattle.rules.specs.declared.Answer.the-variants.{Refused}
+use Rattle.rules.specs.declared.Levels.{Levels}
 use Rattle.rules.specs.declared.Verdict.{Verdict}
 use Rattle.rules.specs.declared.Verdict.the-variants.{Accepted}
 use Rattle.rules.specs.Bytes.{lineSize}
@@ -16,7 +18,7 @@ use Rattle.rules.specs.Pass.{if_then_else_}
 use Rattle.rules.specs.Table.{Memory}
 use Rattle.rules.specs.Answers.{isRefused}
 use Rattle.rules.specs.Steps.{Outcome}
-use Rattle.rules.specs.Calls.{mostWeight, sizesGood, readWeightGood, updateWeightGood, pictureGood, orderGood, Test, verdict, sizesTest, orderTest, unless, leaving, plainVerdict, readVerdict, updateVerdict, fillVerdict}
+use Rattle.rules.specs.Calls.{mostWeight, sizesGood, readWeightGood, updateWeightGood, pictureGood, orderGood, Test, verdict, sizesTest, orderTest, unless, leaving, plainVerdict, readVerdict, updateVerdict, fillVerdict, ageOutcome, levelledOutcome, showLine}
 use Rattle.rules.proofs.Searches.{both}
 
 -- the first test passes, and then the others
@@ -39,6 +41,12 @@ plain-accepted m e =
     let a = first-passes _ _ e in
     let b = first-passes _ _ (a .1) in
     record { sizes = a .0; order = b .0 }
+
+-- | Refusals 1 and 3. .. where cause 1 or 3 holds, it returns the stand-in too
+pub plain-refused : (m : Memory) (n key : ℕ) → plainVerdict m ≡ Verdict.Refused n →
+    (ageOutcome m ≡ leaving m n) × (levelledOutcome m ≡ Levels.Refused n) × (showLine m key ≡ none)
+unfolding ageOutcome levelledOutcome showLine unless
+plain-refused m n key e = (rw e, rw e, rw e)
 
 -- a weight or a picture besides
 pub record MoreAccepted (m : Memory) (Good : Type 0) : Type 0 where

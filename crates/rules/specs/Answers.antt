@@ -1,8 +1,10 @@
 -- The paper's numbers: one for each cause of refusal, and number and values for each case of every enum that is an answer.
 use Prim.Native.Nat.{ℕ, _+_}
+use mathlib.Core.Path.{_≡_}
 use mathlib.Core.List.{List, [], _∷_}
 use mathlib.Core.Bool.{Bool, true, false}
 use mathlib.Core.Option.{Option, none, some}
+use lib.Dec.{ltb}
 use Rattle.rules.specs.declared.Answer.{Answer}
 use Rattle.rules.specs.declared.Answer.the-variants.{Aged, Changed, Unknown, Stored, Passed, Hit, Wanted, Refused}
 use Rattle.rules.specs.declared.Completion.{Completion}
@@ -64,12 +66,17 @@ isRefused (Hit n) = false
 isRefused (Wanted n) = false
 isRefused (Refused n) = true
 
+-- | a refusal's own
+-- It is below 100, as no other answer's is, so that the number alone tells whether the call was refused.
+abbrev pub Told : Answer → Type 0
+Told a = ltb (numberOf a) 100 ≡ isRefused a
+
 -- The other answers: the paper's number, if it has one, and the values that come with it.
 pub record Said : Type 0 where
   pub number : Option ℕ
   pub values : List ℕ
 
-abbrev said : Option ℕ → List ℕ → Said
+abbrev pub said : Option ℕ → List ℕ → Said
 said n vs = record { number = n; values = vs }
 
 -- | Fresh, and any call without a named answer, answers done.

@@ -1,8 +1,9 @@
 -- One definition a call: its answer and all it leaves, for accepted and refused calls alike, by a Rattle caller or a C host.
-use Prim.Native.Nat.{ℕ, _*_}
+use Prim.Native.Nat.{ℕ, _*_, _≤_, _<_}
+use mathlib.Core.Path.{_≡_}
 use mathlib.Core.List.{List, [], _∷_}
 use mathlib.Core.Bool.{Bool, _&&_}
-use mathlib.Core.Option.{Option, none, some}
+use mathlib.Core.Option.{Option, none}
 use Rattle.rules.specs.declared.Gauge.{Gauge}
 use Rattle.rules.specs.declared.Verdict.{Verdict}
 use Rattle.rules.specs.declared.Verdict.the-variants.{Accepted}
@@ -14,7 +15,7 @@ use Rattle.rules.specs.declared.Answer.{Answer}
 use Rattle.rules.specs.declared.Answer.the-variants.{Refused}
 use Rattle.rules.specs.declared.Completion.{Completion}
 use Rattle.rules.specs.declared.Levels.{Levels}
-use Rattle.rules.specs.Bytes.{recordSize, recordCount, lineSize, lineAt, lineCount, gaugeSize, gaugeAt, putGauge}
+use Rattle.rules.specs.Bytes.{recordSize, recordCount, lineSize, lineCount, gaugeSize, gaugeAt, putGauge}
 use Rattle.rules.specs.Pass.{if_then_else_}
 use Rattle.rules.specs.Table.{Memory, inOrder, lookup, places, size, lineTotal, freshMemory}
 use Rattle.rules.specs.Answers.{numberOf, wrongSizes, wrongWeight, notInOrder, wrongPicture}
@@ -33,6 +34,14 @@ sizesGood table lines =
     && leb (recordCount table) mostRecords
     && eqb (lineSize * lineCount lines) (length lines)
     && ltb (lineCount lines) (recordCount table)
+
+-- | K records of 32 bytes, .. K from 1 to 1,024. .. C lines of 64 bytes, .. C from 0 to K − 1
+pub record OfSizes (m : Memory) (k c : ℕ) : Type 0 where
+  pub some-record : 1 ≤ k
+  pub records-few : k ≤ mostRecords
+  pub lines-fewer : c < k
+  pub table : length (m .table) ≡ recordSize * k
+  pub lines : length (m .lines) ≡ lineSize * c
 
 -- | a key with weight w, the number of pieces waiting, 1 to 65,535
 abbrev pub mostWeight : ℕ
@@ -114,14 +123,6 @@ freshOutcome m =
 -- | Show gives no numbers: where cause 1 or 3 holds, it returns the stand-in too.
 unfoldable pub showLine : Memory → ℕ → Option ℕ
 showLine m key = unless (plainVerdict m) (λ n. none) (shownLine (lookup (places m) (size m) key))
-
--- | It returns the line's own 64 bytes, or the caller's stand-in
-unfoldable pub shownBytes : Memory → List ℕ → Option ℕ → List ℕ
-shownBytes m standIn none = standIn
-shownBytes m standIn (some n) = lineAt (m .lines) n
-
-unfoldable pub showOutcome : Memory → ℕ → List ℕ → List ℕ
-showOutcome m key standIn = shownBytes m standIn (showLine m key)
 
 -- | Levelled sum .. Refusals 1 and 3.
 unfoldable pub levelledOutcome : Memory → Levels

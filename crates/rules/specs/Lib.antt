@@ -6,6 +6,6 @@ pub mod Answers
 pub mod Steps
 pub mod Calls
 pub mod Journal
-pub mod Demand3
+pub mod Numbers
+pub mod Replay
 pub mod Sample
-pub mod Idle

@@ -1,4 +1,4 @@
--- A pass over the first n records: what it holds after each record is decided by what it held, the record and the record's place.
+-- A pass over the first n elements f 0, f 1, ..: what it holds after each is decided by what it held, the element and its place.
 -- Everything that is looked for in the table is one of these, at a test and an order.
 use Prim.Native.Nat.{ℕ, zero, suc, _+_}
 use mathlib.Core.Bool.{Bool, true, false, _&&_}
@@ -12,7 +12,7 @@ abbrev pub if_then_else_ {ℓ} : {A : Type ℓ} → Bool → A → A → A
 if true then a else b = a
 if false then a else b = b
 
-unfoldable pub pass : {A : Type 0} → (A → ℕ → Record → A) → A → (ℕ → Record) → ℕ → A
+unfoldable pub pass : {A B : Type 0} → (A → ℕ → B → A) → A → (ℕ → B) → ℕ → A
 pass step held f zero = held
 pass step held f (suc n) = step (pass step held f n) n (f n)
 
@@ -32,17 +32,24 @@ firstOf test = pass (first test) Nowhere
 unfoldable pub bestOf : (Record → Bool) → (Record → Record → Bool) → (ℕ → Record) → ℕ → Found
 bestOf test beats = pass (best test beats) Nowhere
 
-unfoldable pub sumOf : (Record → ℕ) → (ℕ → Record) → ℕ → ℕ
+unfoldable pub sumOf : {B : Type 0} → (B → ℕ) → (ℕ → B) → ℕ → ℕ
 sumOf amount = pass (λ sum i r. sum + amount r) 0
 
-unfoldable pub countOf : (Record → Bool) → (ℕ → Record) → ℕ → ℕ
+unfoldable pub countOf : {B : Type 0} → (B → Bool) → (ℕ → B) → ℕ → ℕ
 countOf test = sumOf (λ r. if test r then 1 else 0)
 
-unfoldable pub allOf : (Record → Bool) → (ℕ → Record) → ℕ → Bool
+unfoldable pub allOf : {B : Type 0} → (B → Bool) → (ℕ → B) → ℕ → Bool
 allOf test = pass (λ so-far i r. so-far && test r) true
 
-unfoldable pub anyOf : (Record → Bool) → (ℕ → Record) → ℕ → Bool
+unfoldable pub anyOf : {B : Type 0} → (B → Bool) → (ℕ → B) → ℕ → Bool
 anyOf test = pass (λ so-far i r. if test r then true else so-far) false
+
+-- the sum of an amount over the chosen of the first n places, and how many they are
+unfoldable pub sumWhere : {B : Type 0} → (ℕ → Bool) → (B → ℕ) → (ℕ → B) → ℕ → ℕ
+sumWhere chosen amount f = sumOf (λ i. if chosen i then amount (f i) else 0) (λ i. i)
+
+unfoldable pub countWhere : (ℕ → Bool) → ℕ → ℕ
+countWhere chosen = countOf chosen (λ i. i)
 
 -- the lowest number below n at which the test fails, or n
 unfoldable pub lowestNot : (ℕ → Bool) → ℕ → ℕ

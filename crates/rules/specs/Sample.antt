@@ -1,17 +1,14 @@
--- Document 01's sample: the journal, byte by byte, the rows and the text that it prints, and its calls as a list of demand 3.
+-- Document 01's sample: the journal, byte by byte, the rows and the text that it prints, and what it leaves.
 use Prim.Native.Nat.{ℕ, _*_}
 use mathlib.Core.List.{List, [], _∷_, _++_}
-use mathlib.Core.Bool.{true, false}
 use lib.ListN.{replicate}
 use Rattle.rules.specs.declared.Record.{Record}
 use Rattle.rules.specs.Bytes.{recordSize, lineSize, putRecord}
-use Rattle.rules.specs.Table.{Memory}
-use Rattle.rules.specs.Answers.{readKind, updateKind, fillKind, ageKind}
+use Rattle.rules.specs.Table.{Memory, withLines}
 use Rattle.rules.specs.Calls.{HostMemory, freshOutcome}
-use Rattle.rules.specs.Demand3.{read, update, fill, age, Call, Heard, heard}
 use Rattle.rules.specs.Journal.{Row, agedWord, changedWord, unknownWord, storedWord, passedWord, hitWord, wantedWord, refusedWord}
 
--- a record of the journal, of a weight and a key below 256, and its picture, 64 bytes alike
+-- a record of the journal: its kind's byte, a key and a weight below 256, and its picture, 64 bytes alike
 unfoldable pub sampleEntry : ℕ → ℕ → ℕ → ℕ → List ℕ
 sampleEntry kind key weight picture =
     (kind ∷ 0 ∷ weight ∷ 0 ∷ 0 ∷ 0 ∷ 0 ∷ 0 ∷ key ∷ replicate 7 0) ++ replicate 64 picture
@@ -20,19 +17,19 @@ sampleEntry kind key weight picture =
 -- | age; read 9 w 1; read 9 w 1.
 unfoldable pub sampleJournal : List ℕ
 sampleJournal =
-    sampleEntry readKind 5 3 0
-    ++ sampleEntry fillKind 5 0 105
-    ++ sampleEntry readKind 5 1 0
-    ++ sampleEntry readKind 7 4 0
-    ++ sampleEntry readKind 7 1 0
-    ++ sampleEntry readKind 9 2 0
-    ++ sampleEntry readKind 11 1 0
-    ++ sampleEntry updateKind 7 3 0
-    ++ sampleEntry updateKind 9 1 0
-    ++ sampleEntry fillKind 7 0 107
-    ++ sampleEntry ageKind 0 0 0
-    ++ sampleEntry readKind 9 1 0
-    ++ sampleEntry readKind 9 1 0
+    sampleEntry 1 5 3 0
+    ++ sampleEntry 3 5 0 105
+    ++ sampleEntry 1 5 1 0
+    ++ sampleEntry 1 7 4 0
+    ++ sampleEntry 1 7 1 0
+    ++ sampleEntry 1 9 2 0
+    ++ sampleEntry 1 11 1 0
+    ++ sampleEntry 2 7 3 0
+    ++ sampleEntry 2 9 1 0
+    ++ sampleEntry 3 7 0 107
+    ++ sampleEntry 4 0 0 0
+    ++ sampleEntry 1 9 1 0
+    ++ sampleEntry 1 9 1 0
 
 -- | K = 3, C = 1
 -- What fresh is lent: no byte of it and neither number is zero.
@@ -100,56 +97,28 @@ sampleText =
     ∷ 49 ∷ 51 ∷ 32 ∷ 119 ∷ 97 ∷ 110 ∷ 116 ∷ 101 ∷ 100 ∷ 32 ∷ 56 ∷ 32 ∷ 49 ∷ 10
     ∷ []
 
--- ---- the sample as a list of demand 3
-abbrev pub reading : ℕ → ℕ → Call
-reading key w = record { kind = read; key = key; weight = w; picture = [] }
+-- ---- what examples are made of
+-- a record by its numbers
+abbrev pub numbers : ℕ → ℕ → ℕ → ℕ → Record
+numbers key heat slack state = record { key = key; heat = heat; slack = slack; state = state }
 
-abbrev pub updating : ℕ → ℕ → Call
-updating key w = record { kind = update; key = key; weight = w; picture = [] }
-
-abbrev pub filling : ℕ → List ℕ → Call
-filling key picture = record { kind = fill; key = key; weight = 0; picture = picture }
-
-abbrev pub aging : Call
-aging = record { kind = age; key = 0; weight = 0; picture = [] }
+-- a memory by its three records, its gauge and its count of lines, no byte of which is zero
+unfoldable pub threeRecords : Record → Record → Record → ℕ → ℕ → ℕ → Memory
+threeRecords x y z total ceiling c =
+    record {
+      table = putRecord (putRecord (putRecord (replicate (3 * recordSize) 0) 0 x) 1 y) 2 z;
+      gauge = record { total = total; ceiling = ceiling };
+      lines = replicate (c * lineSize) 170;
+    }
 
 -- the pictures, each of 64 bytes alike
 abbrev pub samplePicture : ℕ → List ℕ
 samplePicture byte = replicate lineSize byte
 
--- What the replay hears: a host's call with too few gauge bytes, then the thirteen.
-unfoldable pub sampleHeard : List Heard
-sampleHeard =
-    heard (reading 5 3) true
-    ∷ heard (reading 5 3) false
-    ∷ heard (filling 5 (samplePicture 105)) false
-    ∷ heard (reading 5 1) false
-    ∷ heard (reading 7 4) false
-    ∷ heard (reading 7 1) false
-    ∷ heard (reading 9 2) false
-    ∷ heard (reading 11 1) false
-    ∷ heard (updating 7 3) false
-    ∷ heard (updating 9 1) false
-    ∷ heard (filling 7 (samplePicture 107)) true
-    ∷ heard aging false
-    ∷ heard (reading 9 1) false
-    ∷ heard (reading 9 1) false
-    ∷ []
+-- what it leaves: 9 on line 0, which is empty; its bytes are those of the one accepted fill
+unfoldable pub sampleEnd : Memory
+sampleEnd = withLines (samplePicture 105) (threeRecords (numbers 5 2 0 1) (numbers 9 3 1 2) (numbers 11 1 1 1) 8 1 1)
 
 -- The start as a C host lends it, with that many gauge bytes.
 unfoldable pub hostStart : ℕ → HostMemory
 hostStart n = record { table = sampleStart .table; gauge = replicate n 0; lines = sampleStart .lines }
-
-abbrev kept : ℕ → ℕ → ℕ → ℕ → Record
-kept key heat slack state = record { key = key; heat = heat; slack = slack; state = state }
-
--- what the list leaves: 9 on line 0, which is empty; its bytes are those of the one accepted fill
-unfoldable pub sampleEnd : Memory
-sampleEnd =
-    record {
-      table =
-          putRecord (putRecord (putRecord (replicate (3 * recordSize) 0) 0 (kept 5 2 0 1)) 1 (kept 9 3 1 2)) 2
-          (kept 11 1 1 1);
-      gauge = record { total = 8; ceiling = 1 };
-      lines = samplePicture 105;
-    }

@@ -7,7 +7,7 @@ use native.Mathlib.Decide.{ℕ-discrete}
 use native.Mathlib.Omega.{arith}
 use Rattle.rules.specs.declared.Record.{Record}
 use Rattle.rules.specs.declared.Gauge.{Gauge}
-use Rattle.rules.specs.Demand3.{at}
+use Rattle.rules.specs.Replay.{at}
 use Rattle.rules.specs.Table.{Memory, agedRecord, halfDown, newRecord, mostTotal, places, size, lineTotal, withTable, withGauge, write}
 use Rattle.rules.specs.Steps.{aged, agedGauge, track}
 use Rattle.rules.specs.Calls.{mostWeight, sizesGood, orderGood}

@@ -153,10 +153,10 @@ pub fn read_steps(table: &mut [u8], gauge: Gauge, lines: &[u8], key: u64, weight
     ensures { λ r. ⌜ left r (now (table .exit)) (now (lines .entry)) ≡ readSteps (lent (now (table .entry)) gauge (now (lines .entry))) key weight ⌝ }
     ensures { λ r. ⌜ numberOf (r .answer) < 2 ^ 64 ⌝ }
 {
-    let roomy = decay_for(table, gauge, lines, weight);
+    let decayed = decay_for(table, gauge, lines, weight);
     let grown = Gauge {
-        total: roomy.total + weight,
-        ceiling: roomy.ceiling,
+        total: decayed.total + weight,
+        ceiling: decayed.ceiling,
     };
     read_counted(table, grown, lines, key, weight)
 }

@@ -5,7 +5,9 @@ ghost use lib.ListN.{length};
 ghost use Rattle.rules.specs.Bytes.{recordAt, recordCount};
 ghost use Rattle.rules.specs.Pass.{best};
 ghost use Rattle.rules.specs.Table.{isUnlined, hasKey, keyRecord, hotter, hottestUnlined, lookup};
+ghost use Rattle.rules.specs.Answers.{lookupSaid};
 ghost use Rattle.rules.specs.Calls.{mostRecords};
+ghost use Rattle.rules.specs.Numbers.{keySaid};
 ghost use Rattle.tracker.specs.Claiming.{ClaimFits, linedHeat, ColdestIs, IsClaim};
 ghost use Rattle.tracker.specs.Marks.{Unmarked, Marks, lowestUnmarked};
 ghost use Rattle.tracker.specs.Replacing.{FirstUnlined, ColdestYet, serves, IsReplaceable};
@@ -53,6 +55,7 @@ pub fn key_record(table: &[u8], key: u64) -> Found
 // A key, looked up.
 pub fn lookup(table: &[u8], key: u64) -> Lookup
     ensures { λ r. ⌜ r ≡ lookup (recordAt (now (table .entry))) (recordCount (now (table .entry))) key ⌝ }
+    ensures { λ r. ⌜ lookupSaid r ≡ keySaid (keyRecord key (recordAt (now (table .entry))) (recordCount (now (table .entry)))) ⌝ }
 {
     match key_record(table, key) {
         Found::Nowhere => Lookup::Untracked,

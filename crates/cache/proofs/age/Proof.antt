@@ -3,6 +3,8 @@ use borrow.Author.Needs.{needs}
 use Rattle.rules.specs.Answers.{numberOf}
 use Rattle.rules.specs.Steps.{ageSteps}
 use Rattle.rules.specs.Calls.{unless, ageOutcome}
+use Rattle.rules.proofs.Numbers.{age-number}
+use Rattle.cache.proofs.Said.{numbered}
 use Rattle.cache.proofs.age.Statement.{statement}
 use Rattle.cache.proofs.age.Tie as tie
 
@@ -24,7 +26,7 @@ same-length c = search needs
 returns : tie.Need-returns
 unfolding ageOutcome unless numberOf
 returns c =
-    (rw (← c .before .before .before .plain-verdict .ensures, c .before .verdict .given .1), search needs)
+    (numbered (rw (← c .before .before .before .plain-verdict .ensures, c .before .verdict .given .1)) (age-number _), search needs)
 
 same-length-2 : tie.Need-same-length-2
 same-length-2 c = search needs
@@ -34,7 +36,7 @@ unfolding ageOutcome unless ageSteps numberOf
 returns-2 c =
     let accepted = c .before .before .before .before in
     let verdict = accepted .before .before .plain-verdict .ensures in
-    (rw (← verdict, accepted .enum-told .given .1, ← c .before .before .age-all .ensures), search needs)
+    (numbered (rw (← verdict, accepted .enum-told .given .1, ← c .before .before .age-all .ensures)) (age-number _), search needs)
 
 pub age-spec : {M : Type 1} → statement M
 age-spec =

@@ -6,6 +6,8 @@ use Rattle.rules.specs.Answers.{numberOf}
 use Rattle.rules.specs.Calls.{unless, fillOutcome}
 use Rattle.rules.proofs.Verdicts.{fill-accepted}
 use Rattle.steps.proofs.Rooms.{order-fits}
+use Rattle.rules.proofs.Numbers.{fill-number}
+use Rattle.cache.proofs.Said.{numbered}
 use Rattle.cache.proofs.fill.Statement.{statement}
 use Rattle.cache.proofs.fill.Tie as tie
 
@@ -31,7 +33,8 @@ same-length-2 c = search needs
 
 returns : tie.Need-returns
 unfolding fillOutcome unless numberOf
-returns c = (rw (← c .before .before .before .fill-verdict .ensures, c .before .verdict .given .1), search needs)
+returns c =
+    (numbered (rw (← c .before .before .before .fill-verdict .ensures, c .before .verdict .given .1)) (fill-number _ _ _), search needs)
 
 same-length-3 : tie.Need-same-length-3
 same-length-3 c = search needs
@@ -44,7 +47,7 @@ unfolding fillOutcome unless
 returns-2 c =
     let did = c .before .before .before .before in
     let accepted = did .before .before .before in (
-      rw (← accepted .before .before .fill-verdict .ensures, accepted .enum-told .given .1) (did .fill-steps .ensures .0),
+      numbered (rw (← accepted .before .before .fill-verdict .ensures, accepted .enum-told .given .1) (did .fill-steps .ensures .0)) (fill-number _ _ _),
       did .fill-steps .ensures .1,
     )
 

@@ -39,7 +39,7 @@ on-line : (c : tie.After-place) →
     IsOn (lent (args .table .now) (args .gauge) (args .lines .now)) (c .place .given .0 .0) (c .place .given .0 .1 .0)
 unfolding places size
 on-line c =
-    lined-at _ (entry c .args .key) _ _ _ (entry c .pre .1) (sym (c .before .before .lookup .ensures) ∙ c .place .given .1)
+    lined-at _ (entry c .args .key) _ _ _ (entry c .pre .1) (sym (c .before .before .lookup .ensures .0) ∙ c .place .given .1)
 
 lookup-requires : tie.Need-lookup-requires
 lookup-requires c κs = search needs
@@ -55,7 +55,7 @@ unfolding fillSteps store places size numberOf
 returns c =
     let looked = c .before in
     let picture = looked .before .before .before .before .before .args .picture .now in (
-      rw (← looked .lookup .ensures)
+      rw (← looked .lookup .ensures .0)
           (sym (without-line (store _ picture) _ refl refl (looked .lookup .result) (c .match .keys2))),
       lit< tt,
     )
@@ -67,7 +67,7 @@ returns-2 : tie.Need-returns-2
 unfolding fillSteps store places size numberOf
 returns-2 c =
     let at = c .before .before in
-    (rw (← at .before .before .lookup .ensures, at .place .given .1, c .if1 .taken), lit< tt)
+    (rw (← at .before .before .lookup .ensures .0, at .place .given .1, c .if1 .taken), lit< tt)
 
 mul-copy-picture : tie.Need-mul-copy-picture
 mul-copy-picture c = let h = on-line (c .before .before) in omega arith
@@ -115,7 +115,7 @@ returns-3 c =
     let at = empty .before .before in
     let args = entry at .args in (
       rw (
-        ← at .before .before .lookup .ensures,
+        ← at .before .before .lookup .ensures .0,
         at .place .given .1,
         empty .if1 .left,
         put .put-record .ensures,

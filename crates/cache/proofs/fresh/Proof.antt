@@ -1,8 +1,13 @@
 -- `cache::fresh` meets its contract: the test of sizes decides, and a cleared table is the definition's. Assumes nothing.
 use borrow.Author.Needs.{needs}
-use Rattle.rules.specs.Table.{freshMemory, freshGauge}
+use Rattle.rules.specs.declared.Completion.{Completion}
+use Rattle.rules.specs.Answers.{completionSaid}
+use Rattle.rules.specs.Steps.{Outcome}
+use Rattle.rules.proofs.Numbers.{fresh-said}
+use Rattle.rules.specs.Table.{Memory, freshMemory, freshGauge}
 use Rattle.rules.specs.Calls.{verdict, sizesTest, unless, freshOutcome}
 use Rattle.rules.proofs.Branches.{fails, passes}
+use Rattle.cache.proofs.Said.{said-too}
 use Rattle.cache.proofs.fresh.Statement.{statement}
 use Rattle.cache.proofs.fresh.Tie as tie
 
@@ -14,7 +19,9 @@ same-length c = search needs
 
 returns : tie.Need-returns
 unfolding freshOutcome unless verdict sizesTest
-returns c = rw (fails (c .before .sizes-good .ensures) (c .if1 .taken))
+returns c =
+    said-too (λ (o : Outcome Completion Memory). completionSaid (o .answer))
+    (rw (fails (c .before .sizes-good .ensures) (c .if1 .taken))) (fresh-said _)
 
 clear-requires : tie.Need-clear-requires
 clear-requires c κs = search needs
@@ -26,7 +33,8 @@ returns-2 : tie.Need-returns-2
 unfolding freshOutcome unless verdict sizesTest freshMemory freshGauge
 returns-2 c =
     let sizes = c .before .before .before .before in
-    rw (passes (sizes .before .sizes-good .ensures) (sizes .if1 .left), c .before .before .clear .ensures)
+    said-too (λ (o : Outcome Completion Memory). completionSaid (o .answer))
+    (rw (passes (sizes .before .sizes-good .ensures) (sizes .if1 .left), c .before .before .clear .ensures)) (fresh-said _)
 
 pub fresh-spec : {M : Type 1} → statement M
 fresh-spec =

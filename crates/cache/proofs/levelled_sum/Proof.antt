@@ -2,12 +2,15 @@
 use mathlib.Core.Path.{sym, _∙_}
 use borrow.Author.Needs.{needs}
 use Rattle.rules.specs.Bytes.{recordCount}
+use Rattle.rules.specs.Answers.{levelsSaid}
+use Rattle.rules.proofs.Numbers.{levelled-said}
 use Rattle.rules.specs.Table.{places, size}
 use Rattle.rules.specs.Steps.{levelledSum}
 use Rattle.rules.specs.Calls.{unless, levelledOutcome, lent}
 use Rattle.rules.proofs.Memories.{sizes-say}
 use Rattle.rules.proofs.Verdicts.{plain-accepted}
 use Rattle.steps.proofs.Rooms.{order-fits}
+use Rattle.cache.proofs.Said.{said-too}
 use Rattle.cache.proofs.levelled_sum.Statement.{statement}
 use Rattle.cache.proofs.levelled_sum.Tie as tie
 
@@ -32,11 +35,14 @@ sum-levels-requires c κs =
 
 returns : tie.Need-returns
 unfolding levelledOutcome unless
-returns c = rw (← c .before .before .before .plain-verdict .ensures, c .before .verdict .given .1)
+returns c =
+    said-too levelsSaid (rw (← c .before .before .before .plain-verdict .ensures, c .before .verdict .given .1)) (levelled-said _)
 
 returns-2 : tie.Need-returns-2
 unfolding levelledOutcome levelledSum unless places size recordCount
-returns-2 c = rw (← c .before .before .before .plain-verdict .ensures, c .before .enum-told .given .1, c .sum-levels .ensures .0)
+returns-2 c =
+    said-too levelsSaid
+    (rw (← c .before .before .before .plain-verdict .ensures, c .before .enum-told .given .1, c .sum-levels .ensures .0)) (levelled-said _)
 
 pub levelled-sum-spec : {M : Type 1} → statement M
 levelled-sum-spec =

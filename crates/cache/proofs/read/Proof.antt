@@ -3,10 +3,14 @@
 use mathlib.Core.Path.{sym, _∙_}
 use native.Mathlib.Omega.{arith}
 use borrow.Author.Needs.{needs}
+use denote.Ref.{now}
 use Rattle.rules.specs.Answers.{numberOf}
 use Rattle.rules.specs.Calls.{unless, readOutcome}
+use Rattle.rules.proofs.Words.{IsBytes}
+use Rattle.rules.proofs.Answered.{read-number}
 use Rattle.rules.proofs.Verdicts.{read-accepted}
 use Rattle.steps.proofs.Rooms.{order-fits}
+use Rattle.cache.proofs.Said.{numbered}
 use Rattle.cache.proofs.read.Statement.{statement}
 use Rattle.cache.proofs.read.Tie as tie
 
@@ -30,7 +34,12 @@ same-length c = search needs
 
 returns : tie.Need-returns
 unfolding readOutcome unless numberOf
-returns c = (rw (← c .before .before .before .read-verdict .ensures, c .before .verdict .given .1), omega arith)
+returns c =
+    let known = c .before .before .before .before .before .before in
+    let bytes : IsBytes (now (known .before .args .table)) = record { below = λ i. known .slice-known .given i .fits } in (
+      numbered (rw (← c .before .before .before .read-verdict .ensures, c .before .verdict .given .1)) (read-number _ _ _ bytes (omega arith)),
+      omega arith,
+    )
 
 same-length-2 : tie.Need-same-length-2
 same-length-2 c = search needs
@@ -39,7 +48,12 @@ returns-2 : tie.Need-returns-2
 unfolding readOutcome unless
 returns-2 c =
     let told = c .before .before .before .before in
-    rw (← told .before .before .read-verdict .ensures, told .enum-told .given .1) (c .before .before .read-steps .ensures)
+    let known = told .before .before .before .before .before in
+    let bytes : IsBytes (now (known .before .args .table)) = record { below = λ i. known .slice-known .given i .fits } in
+    let done = c .before .before .read-steps .ensures in (
+      numbered (rw (← told .before .before .read-verdict .ensures, told .enum-told .given .1) (done .0)) (read-number _ _ _ bytes (omega arith)),
+      done .1,
+    )
 
 pub read-spec : {M : Type 1} → statement M
 read-spec =

@@ -29,7 +29,7 @@ on-line c =
     let accepted = looked .before in
     let a = plain-accepted _ (sym (accepted .before .before .plain-verdict .ensures) ∙ accepted .enum-told .given .1) in
     let fits = order-fits _ (a .sizes) (a .order) .2 in
-    lined-at _ (entry c .args .key) _ _ _ fits (sym (looked .lookup .ensures) ∙ c .line .given .1)
+    lined-at _ (entry c .args .key) _ _ _ fits (sym (looked .lookup .ensures .0) ∙ c .line .given .1)
 
 plain-verdict-requires : tie.Need-plain-verdict-requires
 plain-verdict-requires c κs = search needs
@@ -58,7 +58,7 @@ returns-2 c =
     rw (
       ← accepted .before .before .plain-verdict .ensures,
       accepted .enum-told .given .1,
-      ← looked .lookup .ensures,
+      ← looked .lookup .ensures .0,
       without-line shownLine none refl refl (looked .lookup .result) (c .match2 .keys2),
     )
     refl
@@ -92,7 +92,7 @@ returns-3 c =
     rw (
       ← accepted .before .before .plain-verdict .ensures,
       accepted .enum-told .given .1,
-      ← looked .lookup .ensures,
+      ← looked .lookup .ensures .0,
       at .line .given .1,
       c .before .if1 .taken,
     )
@@ -107,7 +107,7 @@ returns-4 c =
     rw (
       ← accepted .before .before .plain-verdict .ensures,
       accepted .enum-told .given .1,
-      ← looked .lookup .ensures,
+      ← looked .lookup .ensures .0,
       at .line .given .1,
       c .if1 .left,
     )

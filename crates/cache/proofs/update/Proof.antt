@@ -5,8 +5,10 @@ use native.Mathlib.Omega.{arith}
 use borrow.Author.Needs.{needs}
 use Rattle.rules.specs.Answers.{numberOf}
 use Rattle.rules.specs.Calls.{unless, updateOutcome}
+use Rattle.rules.proofs.Numbers.{update-number}
 use Rattle.rules.proofs.Verdicts.{update-accepted}
 use Rattle.steps.proofs.Rooms.{order-fits}
+use Rattle.cache.proofs.Said.{numbered}
 use Rattle.cache.proofs.update.Statement.{statement}
 use Rattle.cache.proofs.update.Tie as tie
 
@@ -29,7 +31,8 @@ same-length c = search needs
 
 returns : tie.Need-returns
 unfolding updateOutcome unless numberOf
-returns c = (rw (← c .before .before .before .update-verdict .ensures, c .before .verdict .given .1), omega arith)
+returns c =
+    (numbered (rw (← c .before .before .before .update-verdict .ensures, c .before .verdict .given .1)) (update-number _ _ _), omega arith)
 
 same-length-2 : tie.Need-same-length-2
 same-length-2 c = search needs
@@ -38,7 +41,10 @@ returns-2 : tie.Need-returns-2
 unfolding updateOutcome unless
 returns-2 c =
     let told = c .before .before .before .before in
-    rw (← told .before .before .update-verdict .ensures, told .enum-told .given .1) (c .before .before .update-steps .ensures)
+    let done = c .before .before .update-steps .ensures in (
+      numbered (rw (← told .before .before .update-verdict .ensures, told .enum-told .given .1) (done .0)) (update-number _ _ _),
+      done .1,
+    )
 
 pub update-spec : {M : Type 1} → statement M
 update-spec =

@@ -38,7 +38,7 @@ returns-2 c =
     right-gauge _ _ _ _
     (tested .if1 .left)
     (got .gauge-at .ensures)
-    (called .fill .ensures .0)
+    (called .fill .ensures .0 .0)
     (c .number-of .ensures)
     (rw (got .gauge-at .ensures) (sym (gauge-kept gauge bytes)))
 

@@ -33,7 +33,7 @@ returns-2 c =
     right-gauge _ _ _ _
     (got .before .before .before .if1 .left)
     (got .gauge-at .ensures)
-    (called .read .ensures .0)
+    (called .read .ensures .0 .0)
     (c .number-of .ensures)
     (put .put-gauge .ensures)
 

@@ -43,7 +43,9 @@ use denote.Triple.Entry.{onEntry}
 use denote.Triple.Spec.{tripleOf}
 use denote.Triple.Table.{cited}
 use denote.Triple.Walked.{ends-at, goes-ref, says, stay-ref, Stays, walkOf}
+use Rattle.rules.specs.Answers.{entrySaid}
 use Rattle.rules.specs.Journal.{decoded, entryAt}
+use Rattle.rules.specs.Numbers.{saidAt}
 use Rattle.rules.specs.declared.Decoded.{Decoded}
 use Rattle.rules.specs.declared.Entry.{Entry}
 use Rattle.rules.proofs.Decoded as result
@@ -119,7 +121,7 @@ module _ {M : Type 1} (𝓤 : URA M) (H : Heap 𝓤) (A : Atoms 𝓤) (W : Given
   Ensured d = ensured 𝓤 H A decode.ended (decode.clauses 𝓤 H A memory run) (κ′, tt) (old .bytes, (old .at, tt)) tt d
 
   abbrev Heard : Decoded → Type 0
-  Heard d = d ≡ entryAt (now (old .bytes)) (old .at)
+  Heard d = (d ≡ entryAt (now (old .bytes)) (old .at)) × (entrySaid (d .entry) ≡ saidAt (now (old .bytes)) (old .at))
 
   hears : (d : Decoded) → ent 𝓤 (Ensured d) (fact 𝓤 (Heard d))
   hears d = exE 𝓤 _ (λ ws. snd∗ 𝓤 (sem 𝓤 H A (lasts decode.ended (κ′, tt) (old .bytes, (old .at, tt)) ws)) (fact 𝓤 (Heard d)))
@@ -138,7 +140,7 @@ module _ {M : Type 1} (𝓤 : URA M) (H : Heap 𝓤) (A : Atoms 𝓤) (W : Given
       qed W (Left d) ∵
       suffices ! _ (ends-at 𝓤 H A this.ended kept (this.clauses 𝓤 H A memory run) W
       (((κ, (κ′, tt)), (q, (q′, tt)), bounds, (passed, tt), (vptr b o ∷ [], tt)), tt) (val (d .entry)) (d .entry) (new (d .next), tt) (tt, tt)) $
-      says ! (e, refl) $ move ! (2 ∷ 3 ∷ []) $ join ! $ frame ! $ feqI ! (List Val) (vptr b o ∷ []) (vptr b o ∷ []) refl $ fjoin3 ! $
+      says ! (e .0, refl, e .1) $ move ! (2 ∷ 3 ∷ []) $ join ! $ frame ! $ feqI ! (List Val) (vptr b o ∷ []) (vptr b o ∷ []) refl $ fjoin3 ! $
       nothing ! $ move ! (1 ∷ 0 ∷ []) $ fjoin ! $
       owned ! entry.the-row (Is entry.the-row) (enums.makes entry.the-type entry-laws.the-plain 𝓤 H A) (d .entry) _ is $ move ! (1 ∷ 0 ∷ []) $ done !
 

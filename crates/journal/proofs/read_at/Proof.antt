@@ -46,7 +46,9 @@ use denote.Triple.Spec.{tripleOf}
 use denote.Triple.Table.{cited}
 use denote.Triple.Walked.{ends-at, goes-none, goes-none-slice, says, stay-none, stay-none-slice, Stays, walkOf}
 use denote.Exit.{yes}
+use Rattle.rules.specs.Answers.{entrySaid}
 use Rattle.rules.specs.Journal.{decoded, entryAt}
+use Rattle.rules.specs.Numbers.{saidAt}
 use Rattle.rules.specs.declared.Decoded.{Decoded}
 use Rattle.rules.specs.declared.Entry.{Entry}
 use Rattle.rules.proofs.Decoded as result
@@ -141,7 +143,7 @@ module _ {M : Type 1} (𝓤 : URA M) (H : Heap 𝓤) (A : Atoms 𝓤) (W : Given
   Ensured ν l δ e = ensured 𝓤 H A next.ended (next.clauses 𝓤 H A memory run) (ν ∷ κ, (κ, tt)) (lent l δ, tt) tt e
 
   abbrev Heard : Entry → Reader → Type 0
-  Heard e r = (decoded e (r .at) ≡ entryAt (now s) n) × (r .bytes ≡ s)
+  Heard e r = (decoded e (r .at) ≡ entryAt (now s) n) × (r .bytes ≡ s) × (entrySaid e ≡ saidAt (now s) n)
 
   -- the end: the entry and the position of the reader that `next` left are the result
   abbrev pair : Entry → Reader → Decoded
@@ -157,7 +159,7 @@ module _ {M : Type 1} (𝓤 : URA M) (H : Heap 𝓤) (A : Atoms 𝓤) (W : Given
       qed W (‵ (flft κ q) ∷ ‵ Lent ∷ ‵ Start ∷ []) ∵
       suffices ! _ (ends-at 𝓤 H A this.ended kept (this.clauses 𝓤 H A memory run) W
       (((κ, tt), (q, tt), tt, (s, (n, tt)), (slice ∷ [], (vint w64 n ∷ [], tt))), tt) (val (pair e r)) (pair e r) (tt, (tt, tt)) (tt, (tt, tt))) $
-      says ! (same .0) $ nothing ! $ move ! (1 ∷ 0 ∷ []) $ join ! $ frame ! $ fjoin ! $
+      says ! (same .0, same .2) $ nothing ! $ move ! (1 ∷ 0 ∷ []) $ join ! $ frame ! $ fjoin ! $
       owned ! result.the-row (Is result.the-row) (structs.makes result.the-type result-laws.the-plain 𝓤 H A) (pair e r) _ is $
       move ! (1 ∷ 0 ∷ []) $ done !
 

@@ -1,5 +1,5 @@
 -- `lent::age` meets its contract, by `HandedOn.antt`'s walk with no numbers, over `cache::age`. In order: the gauge is copied out, the table lent again, `cache::age` called, the reply's gauge stored, and its answer returned.
--- The equation that `cache::age` ensures of its reply is the one that `age` ensures of the reply's answer and gauge; the bound on the answer's number is let go. Assumes nothing.
+-- The equations that `cache::age` ensures of its reply are the ones that `age` ensures of the reply's answer and gauge; the bound on the answer's number is let go. Assumes nothing.
 use mathlib.Core.Path.{_≡_}
 use Prim.Native.Nat.{_<_, _^_}
 use base.Logic.{fst∗}
@@ -9,6 +9,7 @@ use denote.Triple.Spec.{tripleOf}
 use denote.Triple.Table.{entered, cited}
 use Rattle.rules.specs.Answers.{numberOf}
 use Rattle.rules.specs.Calls.{lent, left, ageOutcome}
+use Rattle.rules.specs.Numbers.{ageNumber}
 use Rattle.cache.proofs.age as core
 use Rattle.cache.proofs.age.Symbol as core-def
 use Rattle.cache.proofs.age.Met as core-thm
@@ -25,6 +26,6 @@ age-spec 𝓤 H 𝓜 𝓖 𝓡 =
     (tables 𝓤 H 𝓜 𝓡 code.env .C) (tables 𝓤 H 𝓜 𝓡 code.env .Λ) key.name code.function (code.unfolded 𝓤 H 𝓜 𝓡)
     (bare-meets 𝓤 H (𝓖 .A) (givenOf 𝓤 H 𝓜 𝓖) core-def.name
     (λ κs a. core.clauses 𝓤 H (𝓖 .A) (𝓜 .mem) (𝓡 .run) κs a .ensures tt) (λ κs a. thin.clauses 𝓤 H (𝓖 .A) (𝓜 .mem) (𝓡 .run) κs a .ensures tt)
-    (λ κs a r zs. fst∗ 𝓤 (fact 𝓤 (left r zs (a .1 .1 .0 .now) ≡ ageOutcome (lent (a .0 .now) (a .1 .0 .now) (a .1 .1 .0 .now)))) (fact 𝓤 (numberOf (r .answer) < 2 ^ 64)))
+    (λ κs a r zs. fst∗ 𝓤 (fact 𝓤 ((left r zs (a .1 .1 .0 .now) ≡ ageOutcome (lent (a .0 .now) (a .1 .0 .now) (a .1 .1 .0 .now))) × (numberOf (r .answer) ≡ ageNumber (lent (a .0 .now) (a .1 .0 .now) (a .1 .1 .0 .now))))) (fact 𝓤 (numberOf (r .answer) < 2 ^ 64)))
     (tablesOf 𝓤 H 𝓜 (tables 𝓤 H 𝓜 𝓡 code.env))
     (cited 𝓤 H (tripleOf 𝓤 H (𝓖 .A) core.signature (core.spec 𝓤 H (𝓖 .A) (𝓜 .mem) (𝓡 .run))) 𝓜 𝓡 code.env core-def.name core-def.routine code.calls-cache·age (core-thm.met 𝓤 H 𝓜 𝓖 𝓡)))

@@ -65,7 +65,7 @@ same-length-2 c = search needs
 
 returns : tie.Need-returns
 unfolding performed
-returns c = rw (c .before .before .before .before .before .before .entry .given .1) (c .before .before .read .ensures .0)
+returns c = rw (c .before .before .before .before .before .before .entry .given .1) (c .before .before .read .ensures .0 .0)
 
 same-length-3 : tie.Need-same-length-3
 same-length-3 c = search needs
@@ -75,7 +75,7 @@ same-length-4 c = search needs
 
 returns-2 : tie.Need-returns-2
 unfolding performed
-returns-2 c = rw (c .before .before .before .before .before .before .entry2 .given .1) (c .before .before .update .ensures .0)
+returns-2 c = rw (c .before .before .before .before .before .before .entry2 .given .1) (c .before .before .update .ensures .0 .0)
 
 same-length-5 : tie.Need-same-length-5
 same-length-5 c = search needs
@@ -89,7 +89,7 @@ returns-3 c =
     let did = c .before .before .before .before in
     let told = did .before .before .before .before .before .entry3 .given in
     let whole : told .0 .1 .0 + 64 - told .0 .1 .0 ≡ 64 = omega arith in
-    rw (told .1) (rw whole at (did .fill .ensures .0))
+    rw (told .1) (rw whole at (did .fill .ensures .0 .0))
 
 same-length-7 : tie.Need-same-length-7
 same-length-7 c = search needs
@@ -99,7 +99,7 @@ same-length-8 c = search needs
 
 returns-4 : tie.Need-returns-4
 unfolding performed
-returns-4 c = rw (c .before .before .before .before .before .enum-told .given .1) (c .before .before .age .ensures .0)
+returns-4 c = rw (c .before .before .before .before .before .enum-told .given .1) (c .before .before .age .ensures .0 .0)
 
 returns-5 : tie.Need-returns-5
 unfolding performed

@@ -16,14 +16,14 @@ is-end-requires c κs = search needs
 
 returns : tie.Need-returns
 returns c =
-    let decoded = c .before .before .decode .ensures in
+    let decoded = c .before .before .decode .ensures .0 in
     ended _ _ _ _ (rw (← decoded) (sym (c .before .is-end .ensures) ∙ c .if1 .taken))
 
 add-number : tie.Need-add-number
 add-number c = search needs
 
 perform-requires : tie.Need-perform-requires
-perform-requires c κs = rw (c .before .before .before .before .before .before .decode .ensures) (picture-inside _ _)
+perform-requires c κs = rw (c .before .before .before .before .before .before .decode .ensures .0) (picture-inside _ _)
 
 put-row-requires : tie.Need-put-row-requires
 put-row-requires c κs = search needs
@@ -45,7 +45,7 @@ returns-2 c =
     let did = at .perform in
     let goes = at .before .before .before .before .before in
     let start = goes .before .before .before .before .before .before .before in
-    let decoded = goes .before .before .decode .ensures in
+    let decoded = goes .before .before .decode .ensures .0 in
     carried-on
     (start .args .journal .now)
     (start .args .p)

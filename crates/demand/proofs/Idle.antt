@@ -4,16 +4,16 @@ use Prim.Native.Nat.{ℕ, _*_, _≤_}
 use mathlib.Core.Path.{_≡_, refl, ap}
 use mathlib.Core.List.{[], _∷_}
 use native.Mathlib.Omega.{arith}
 use Rattle.rules.specs.declared.Answer.{Answer}
 use Rattle.rules.specs.Table.{Memory, places}
 use Rattle.rules.specs.Answers.{numberOf}
 use Rattle.rules.specs.Steps.{Outcome}
 use Rattle.rules.specs.Calls.{readOutcome}
-use Rattle.rules.specs.Demand3.{accepted, nothing}
-use Rattle.rules.specs.Sample.{sampleLent, sampleStart, reading, samplePicture}
-use Rattle.rules.specs.Idle.{MeetsRead, MeetsUpdate, MeetsFill, idleFill, idleUpdate, passingRead, echo, echoingSteps, echoingRead, emptySteps, emptyRead, refusingRead, inventing, inventingTotal, inventingCeiling, leftBy, heardBy, Demand3By}
-use Rattle.rules.proofs.Computing.{computing}
-use Rattle.rules.proofs.EveryList.{demand3}
+use Rattle.demand.specs.List.{read, rattle, own, nothing}
+use Rattle.rules.specs.Sample.{sampleLent, sampleStart, samplePicture}
+use Rattle.demand.specs.Idle.{MeetsRead, MeetsUpdate, MeetsFill, idleFill, idleUpdate, passingRead, echo, echoingSteps, echoingRead, emptySteps, emptyRead, refusingRead, inventing, inventingTotal, inventingCeiling, reading, leftBy, heardBy, Demand3By}
+use Rattle.demand.proofs.Computing.{computing}
+use Rattle.demand.proofs.EveryList.{demand3}
 
 -- ---- the contracts
 abbrev answered : Outcome Answer Memory → ℕ
@@ -84,4 +84,4 @@ inventing-ceiling-breaks-demand3 d = let e : 3 * 3 ≤ 3 = d .product in omega a
 pub read-meets-demand3 : Demand3By readOutcome (reading 5 3 ∷ reading 5 1 ∷ [])
 unfolding computing leftBy heardBy
 read-meets-demand3 =
-    demand3 sampleLent _ _ refl (accepted (reading 5 3) (omega arith) refl (accepted (reading 5 1) (omega arith) refl nothing))
+    demand3 sampleLent _ _ refl (own (read 5 3) (rattle _) refl (omega arith) (own (read 5 1) (rattle _) refl (omega arith) nothing))

@@ -5,18 +5,20 @@ use mathlib.Core.Path.{_≡_}
 use mathlib.Core.List.{List, [], _∷_}
 use lib.ListN.{length, replicate}
 use lib.Dec.{eqb}
 use Rattle.rules.specs.declared.Gauge.{Gauge}
 use Rattle.rules.specs.declared.Found.{Found}
 use Rattle.rules.specs.declared.Found.the-variants.{Nowhere, At}
 use Rattle.rules.specs.declared.Answer.{Answer}
 use Rattle.rules.specs.declared.Answer.the-variants.{Unknown, Passed, Refused}
 use Rattle.rules.specs.Pass.{if_then_else_}
 use Rattle.rules.specs.Table.{Memory, keyRecord, places, size, withTable, withGauge}
 use Rattle.rules.specs.Answers.{noLine, wrongSizes, isRefused}
 use Rattle.rules.specs.Steps.{Outcome, outcome, decayFor, grown, readAnswer, readSteps}
 use Rattle.rules.specs.Calls.{unless, leaving, readVerdict, updateVerdict, fillVerdict, readOutcome, updateOutcome, fillOutcome}
-use Rattle.rules.specs.Demand3.{Call, Heard, heard, unheard, replay, Demand3}
+use Rattle.rules.specs.Replay.{unheard}
 use Rattle.rules.specs.Sample.{sampleStart}
+use Rattle.demand.specs.List.{read, Heard, heard, replay}
+use Rattle.demand.specs.Demand3.{Demand3}
 
 -- ---- the contracts
 -- | Each callable function's contract gives its answer and every lent byte and gauge number afterwards by equations with the steps
@@ -84,18 +86,26 @@ inventingCeiling = inventing (λ g. record { total = g .total; ceiling = g .tota
 
 -- ---- demand 3 of a version of read
 -- | 3 by the replay
+-- a read's key and weight
+pub record Read : Type 0 where
+  pub key : ℕ
+  pub weight : ℕ
+
+abbrev pub reading : ℕ → ℕ → Read
+reading key w = record { key = key; weight = w }
+
 -- what it leaves after reads, one after another
-unfoldable pub leftBy : (Memory → ℕ → ℕ → Outcome Answer Memory) → Memory → List Call → Memory
+unfoldable pub leftBy : (Memory → ℕ → ℕ → Outcome Answer Memory) → Memory → List Read → Memory
 leftBy call m [] = m
-leftBy call m (c ∷ cs) = leftBy call (call m (c .key) (c .weight) .after) cs
+leftBy call m (r ∷ rs) = leftBy call (call m (r .key) (r .weight) .after) rs
 
 -- what the replay hears of them
-unfoldable pub heardBy : (Memory → ℕ → ℕ → Outcome Answer Memory) → Memory → List Call → List Heard
+unfoldable pub heardBy : (Memory → ℕ → ℕ → Outcome Answer Memory) → Memory → List Read → List Heard
 heardBy call m [] = []
-heardBy call m (c ∷ cs) =
-    heard c (isRefused (call m (c .key) (c .weight) .answer)) ∷ heardBy call (call m (c .key) (c .weight) .after) cs
+heardBy call m (r ∷ rs) =
+    heard (read (r .key) (r .weight)) (isRefused (call m (r .key) (r .weight) .answer))
+    ∷ heardBy call (call m (r .key) (r .weight) .after) rs
 
 -- demand 3 after them, from the sample's start
-abbrev pub Demand3By : (Memory → ℕ → ℕ → Outcome Answer Memory) → List Call → Type 0
-Demand3By call cs =
-    Demand3 (leftBy call sampleStart cs) (size (leftBy call sampleStart cs)) (replay unheard (heardBy call sampleStart cs))
+abbrev pub Demand3By : (Memory → ℕ → ℕ → Outcome Answer Memory) → List Read → Type 0
+Demand3By call rs = Demand3 (leftBy call sampleStart rs) (replay (unheard (size sampleStart)) (heardBy call sampleStart rs))

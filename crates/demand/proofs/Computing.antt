@@ -1,0 +1,9 @@
+-- Everything on the way from a list of calls to what it leaves and what the replay makes of it: a proof that says
+-- `unfolding computing` has the definitions run. Assumes nothing.
+use Rattle.rules.proofs.Computing.{computing as computing-calls}
+use Rattle.demand.specs.List.{callOutcome, keyOf, memoryOf, made, acceptedTruth, heardTruth, replay}
+use Rattle.demand.specs.Sample.{sampleCalls, sampleHeard}
+
+unfoldable pub computing : Unit {0}
+unfolding computing-calls callOutcome keyOf memoryOf made acceptedTruth heardTruth replay sampleCalls sampleHeard
+computing = tt

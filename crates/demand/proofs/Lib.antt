@@ -1,0 +1,6 @@
+pub mod Computing
+pub mod Refusals
+pub mod EveryList
+pub mod SampleList
+pub mod Idle
+pub mod Examples
