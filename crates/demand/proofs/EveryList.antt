@@ -91,7 +91,7 @@ list-holds : {m end : Memory} {hs : List Heard} (t : Truth) → Holds m t → Fo
 unfolding replay heardTruth
 list-holds t h nothing = h
 list-holds t h (own c lent same fits rest) =
-    list-holds _ (own-holds c lent t (rw same h) fits (isRefused (made c lent .answer)) refl) rest
+    list-holds _ (own-holds c lent t (rw same h) (omega arith) (isRefused (made c lent .answer)) refl) rest
 list-holds t h (elsewhere c lent e rest) = list-holds t h rest
 
 -- what holds after it
@@ -151,5 +151,9 @@ stays-in-order m end hs done follows =
 
 pub heavy-hitters-tracked : AfterEveryList HeavyHittersTracked
 heavy-hitters-tracked m end hs done follows key heavy missing =
-    let d = demand3 m end hs done follows in
-    omega (arith, mul-le-mul-left (size end) (d .untracked key missing), product-most end (replay (unheard (size m)) hs) (after-list m end hs done follows))
+    let h = after-list m end hs done follows in
+    omega (
+      arith,
+      mul-le-mul-left (size end) (h .sound .untracked key (key-missing (places end) (size end) key missing)),
+      product-most end (replay (unheard (size m)) hs) h,
+    )

@@ -1,5 +1,5 @@
--- Demand 3 cannot be thinned unnoticed: a memory and a truth that miss one clause by one, and no other, are refused; and its premise is
--- wide. Each example is run. Assumes nothing.
+-- What keeps demand 3 from being thinned unnoticed: for each clause a memory and a truth that miss it, by one, and no other clause; and
+-- that its premise is wide. Each example is run. Assumes nothing.
 use Prim.Native.Nat.{ℕ, _+_, _*_, _≤_, _<_, _^_}
 use mathlib.Core.Path.{_≡_, refl, ap}
 use mathlib.Core.Bool.{true, false}
