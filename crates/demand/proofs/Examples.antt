@@ -11,12 +11,15 @@ use lib.Dec.{eqb}
 use Rattle.rules.specs.declared.Record.{Record}
 use Rattle.rules.specs.Pass.{if_then_else_}
 use Rattle.rules.specs.declared.Found.the-variants.{Nowhere}
-use Rattle.rules.specs.Table.{Memory, keyRecord, places, size}
+use Rattle.rules.specs.Table.{Memory, keyRecord, places, size, lineTotal}
 use Rattle.rules.specs.Answers.{isRefused}
-use Rattle.rules.specs.Calls.{freshOutcome, HostMemory, hostLent, exported}
+use Rattle.rules.specs.Calls.{readOutcome, freshOutcome, HostMemory, hostLent, held, hosted, exported}
+use Rattle.rules.specs.Numbers.{TellsLine}
 use Rattle.rules.specs.Replay.{Truth, unheard, at}
 use Rattle.rules.specs.Sample.{numbers, threeRecords, samplePicture, hostStart}
+use Rattle.rules.proofs.Words.{IsBytes}
 use Rattle.rules.proofs.Changes.{at-same}
+use Rattle.rules.proofs.Answered.{host-answered-line}
 use Rattle.demand.specs.List.{Call, read, update, fill, callOutcome, keyOf, Lent, memoryOf, made, Heard, heard, rattle, host, Follows, nothing, own, elsewhere, replay}
 use Rattle.demand.specs.Demand3.{Demand3, LevelledBound, StaysInOrder, HeavyHittersTracked}
 use Rattle.demand.specs.Sample.{sampleCalls}
@@ -175,3 +178,8 @@ pub thirteen-numbers : told sampleCalls (hostStart 16)
     ≡ 4000 ∷ 103 ∷ 2000 ∷ 104 ∷ 4000 ∷ 104 ∷ 104 ∷ 101 ∷ 102 ∷ 5 ∷ 100 ∷ 104 ∷ 4000 ∷ []
 unfolding computing
 thirteen-numbers = refl
+
+-- ---- the line that a host computes, of the largest key and weight
+pub largest-line : (h : HostMemory) → IsBytes (h .table) →
+    TellsLine (lineTotal (held h)) (hosted (λ m. readOutcome m largest 65535) h .answer) (exported (λ m. readOutcome m largest 65535) h .answer)
+largest-line h bytes = host-answered-line h largest 65535 bytes (omega arith)
