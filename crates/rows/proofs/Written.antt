@@ -2,7 +2,7 @@
 -- front of the end. Assumes nothing.
 use Prim.Native.Nat.{ℕ, suc, _+_, _≤_, _<_}
 use mathlib.Core.List.{List, [], _∷_, _++_, append-assoc, append-nil}
-use mathlib.Core.Path.{_≡_}
+use mathlib.Core.Path.{_≡_, refl}
 use native.Mathlib.Omega.{arith}
 use lib.ListN.{length, take, drop, set, length-append, length-take, length-drop, take-append-drop}
 use lib.Seq.{take-at, drop-append-add, drop-drop, set-split}
@@ -57,8 +57,17 @@ written-push out at a v room =
     let inside : at + length a < length (written out at a) = rw (written-length out at a fits) room in
     rw (written-one (written out at a) (at + length a) v inside) (written-more out at a fits (v ∷ []))
 
+-- what was written from the start stands in front of the end
+pub puts-front : {out after a : List ℕ} {end : ℕ} → Puts out 0 a end after → take end after ≡ a
+unfolding written
+puts-front {out} {a = a} puts = rw (puts .holds, puts .ends) (take-at a (drop (0 + length a) out) (0 + length a) (omega arith))
+
 -- ---- rows
+pub printed-join : (rows more : List Row) → printedAll (rows ++ more) ≡ printedAll rows ++ printedAll more
+unfolding printedAll
+printed-join [] more = refl
+printed-join (row ∷ rows) more = rw (printed-join rows more, append-assoc)
+
 pub printed-last : (rows : List Row) (row : Row) → printedAll (rows ++ (row ∷ [])) ≡ printedAll rows ++ printed row
 unfolding printedAll
-printed-last [] row = append-nil (printed row)
-printed-last (first ∷ rows) row = rw (printed-last rows row, append-assoc)
+printed-last rows row = rw (printed-join rows (row ∷ []), append-nil)

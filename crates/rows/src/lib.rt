@@ -72,7 +72,7 @@ fn put_number(out: &mut [u8], at: usize, n: u64) -> usize
 // Writes a row: number, word, total, ceiling.
 pub fn put_row(out: &mut [u8], at: usize, number: u64, answer: Answer, gauge: Gauge) -> usize
     requires { ⌜ at + rowSize ≤ length (now out) ⌝ }
-    ensures { λ r. ⌜ Puts (now (out .entry)) at (printed (record { number = number; word = wordOf answer; total = gauge .total; ceiling = gauge .ceiling })) r (now (out .exit)) × (r ≤ at + rowSize) ⌝ }
+    ensures { λ r. ⌜ Puts (now (out .entry)) at (printed (record { number = number; word = wordOf answer; total = gauge .total; ceiling = gauge .ceiling })) r (now (out .exit)) ⌝ }
 {
     let a = put_digits(out, at, 20, number);
     let b = put_bytes(out, a, b" ");

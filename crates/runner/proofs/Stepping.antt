@@ -23,6 +23,7 @@ use Rattle.rules.specs.Journal.{Run, entrySize, kindAt, gapsZero, pictureZero, 
 use Rattle.runner.specs.declared.Progress.{Progress}
 use Rattle.rows.specs.Written.{rowSize, Puts}
 use Rattle.runner.specs.Progress.{PictureInside, Runs, Steps}
+use Rattle.rows.proofs.Sizes.{row-short}
 use Rattle.rows.proofs.Written.{written-length, puts-join, printed-last}
 
 -- ---- pictures
@@ -70,15 +71,15 @@ module _ (journal : List ℕ) where
 module _ (journal : List ℕ) (p : Progress) (m : Memory) (out : List ℕ) where
   pub ended : isEnd (entryAt journal (p .at) .entry) ≡ true → Steps journal p m out p m out
   unfolding perform
-  ended ends = record { runs = λ run out₀ same r. rw (rw (r .at) at ends) r; room = omega arith; numbers = omega arith }
+  ended ends = record { runs = λ run out₀ same r. rw (rw (r .at) at ends) r }
 
   pub carried-on : (q : Progress) (out′ : List ℕ) (o : Outcome Answer Memory) → isEnd (entryAt journal (p .at) .entry) ≡ false →
       o ≡ performed journal (entryAt journal (p .at) .entry) m → q .at ≡ entryAt journal (p .at) .next → q .numbered ≡ p .numbered + 1 →
-      Puts out (p .end) (printed (rowOf (q .numbered) o)) (q .end) out′ → q .end ≤ p .end + rowSize → p .end + rowSize ≤ length out →
+      Puts out (p .end) (printed (rowOf (q .numbered) o)) (q .end) out′ → p .end + rowSize ≤ length out →
       Steps journal p m out q (o .after) out′
   unfolding perform printing
-  carried-on q out′ o more does next counts puts short room =
-      record { runs = λ run out₀ same r. rw (carried run out₀ r) (rows run out₀ same r); room = short; numbers = omega arith }
+  carried-on q out′ o more does next counts puts room =
+      record { runs = λ run out₀ same r. rw (carried run out₀ r) (rows run out₀ same r) }
     where
       carried : (run : Run) (out₀ : List ℕ) → Runs run out₀ p m out → perform journal run (entryAt journal (run .at)) ≡ printing run (q .at) o
       carried run out₀ r =
@@ -90,7 +91,7 @@ module _ (journal : List ℕ) (p : Progress) (m : Memory) (out : List ℕ) where
       rows : (run : Run) (out₀ : List ℕ) → length out₀ ≡ length out → Runs run out₀ p m out →
           Runs (printing run (q .at) o) out₀ q (o .after) out′
       rows run out₀ same r =
-          let fits : p .end + length (printed (rowOf (q .numbered) o)) ≤ length out = omega arith in
+          let fits : p .end + length (printed (rowOf (q .numbered) o)) ≤ length out = omega (arith, row-short (q .numbered) o) in
           let number : suc (run .numbered) ≡ q .numbered = omega arith in
           record {
             memory = refl;

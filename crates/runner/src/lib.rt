@@ -1,14 +1,15 @@
 // Runs a journal on a cache: what each record does, and the row that it prints. A program over it only reads and writes.
 ghost use mathlib.Core.Path.{_≡_};
-ghost use Prim.Native.Nat.{_+_, _*_, _≤_, _<_, _^_};
+ghost use Prim.Native.Nat.{_+_, _≤_, _<_, _^_};
 ghost use lib.ListN.{length};
-ghost use Rattle.rules.specs.Journal.{performed, isEnd, runFor, entryCount, goingOn};
+ghost use Rattle.rules.specs.Journal.{performed, isEnd, goingOn};
 ghost use Rattle.rules.specs.Calls.{lent, left};
 ghost use Rattle.rows.specs.Written.{rowSize};
-ghost use Rattle.runner.specs.Progress.{PictureInside, Steps, Runs};
+ghost use Rattle.runner.specs.Progress.{PictureInside, Steps, roomFor, Ends};
 use journal::ENTRY_SIZE;
-use journal::decode;
+use journal::read_at;
 use records::LINE_SIZE;
+use rows::ROW_SIZE;
 use rows::put_row;
 use rules::Answer;
 use rules::Entry;
@@ -65,7 +66,7 @@ fn step(table: &mut [u8], lines: &mut [u8], journal: &[u8], out: &mut [u8], p: P
     ensures { λ q. ⌜ Steps (now (journal .entry)) p (lent (now (table .entry)) (p .gauge) (now (lines .entry))) (now (out .entry)) q (lent (now (table .exit)) (q .gauge) (now (lines .exit))) (now (out .exit)) ⌝ }
 {
     let at = p.at;
-    let d = decode(journal, at);
+    let d = read_at(journal, at);
     let entry = d.entry;
     if is_end(entry) {
         return p;
@@ -85,7 +86,25 @@ fn step(table: &mut [u8], lines: &mut [u8], journal: &[u8], out: &mut [u8], p: P
     }
 }
 
-// Runs a piece of a journal that holds whole records, and perhaps a short end, numbering on from the records before it.
+// The most that a row's number can be.
+const MOST_NUMBER: u64 = 18446744073709551615;
+
+// Whether one more row has room in an output of so many bytes, and a number.
+fn has_room(most: usize, p: Progress) -> bool
+    requires { ⌜ p .end ≤ most ⌝ }
+    ensures { λ b. ⌜ b ≡ roomFor most (p .end) (p .numbered) ⌝ }
+{
+    (ROW_SIZE <= most - p.end) & (p.numbered < MOST_NUMBER)
+}
+
+// How far a run came, and whether that is the whole journal. Where it is not, the next row found no room.
+pub struct Ended {
+    pub progress: Progress,
+    pub whole: bool,
+}
+
+// Runs a piece of a journal that holds whole records, and perhaps a short end, numbering on from the records before it. It stops
+// before a record whose row has no room: ROW_SIZE bytes, and a number below 2^64. The records that are left begin at `progress.at`.
 pub fn run(
     table: &mut [u8],
     gauge: Gauge,
@@ -93,9 +112,8 @@ pub fn run(
     journal: &[u8],
     numbered: u64,
     out: &mut [u8],
-) -> Progress
-    requires { ⌜ (rowSize * entryCount (now journal) ≤ length (now out)) × (numbered + entryCount (now journal) < 2 ^ 64) ⌝ }
-    ensures { λ q. ⌜ Runs (runFor (now (journal .entry)) (goingOn (lent (now (table .entry)) gauge (now (lines .entry))) numbered) (entryCount (now (journal .entry)))) (now (out .entry)) q (lent (now (table .exit)) (q .gauge) (now (lines .exit))) (now (out .exit)) × (q .numbered ≤ numbered + entryCount (now (journal .entry))) ⌝ }
+) -> Ended
+    ensures { λ q. ⌜ Ends (now (journal .entry)) (goingOn (lent (now (table .entry)) gauge (now (lines .entry))) numbered) (now (out .entry)) q (lent (now (table .exit)) (q .progress .gauge) (now (lines .exit))) (now (out .exit)) ⌝ }
 {
     let n = (journal.len() + (ENTRY_SIZE - 1)) / ENTRY_SIZE;
     let mut p = Progress {
@@ -106,8 +124,17 @@ pub fn run(
     };
     let mut i = 0;
     while i < n {
+        if !has_room(out.len(), p) {
+            return Ended {
+                progress: p,
+                whole: false,
+            };
+        }
         p = step(table, lines, journal, out, p);
         i += 1;
     }
-    p
+    Ended {
+        progress: p,
+        whole: true,
+    }
 }

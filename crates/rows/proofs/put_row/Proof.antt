@@ -15,12 +15,12 @@ row-puts : {out o₁ o₂ o₃ o₄ o₅ after word : List ℕ} {at a b c d e en
     Puts out at (digits 20 number) a o₁ × (a ≤ at + 20) → Puts o₁ a (32 ∷ []) b o₂ → Puts o₂ b word c o₃ × (c ≤ b + 28) →
     Puts o₃ c (32 ∷ decimal total) d o₄ × (d ≤ c + 21) → Puts o₄ d (32 ∷ decimal ceiling) e o₅ × (e ≤ d + 21) →
     Puts o₅ e (10 ∷ []) end after →
-    Puts out at (printed (record { number = number; word = word; total = total; ceiling = ceiling })) end after × (end ≤ at + 92)
+    Puts out at (printed (record { number = number; word = word; total = total; ceiling = ceiling })) end after
 unfolding printed decimal
 row-puts {word = word} number total ceiling room n s w t c l =
     let spaced = puts-join (omega arith) (n .0) s in
     let worded = rw (append-assoc (digits 20 number) (32 ∷ []) word) at (puts-join (omega arith) spaced (w .0)) in
-    (puts-join (omega arith) (puts-join (omega arith) (puts-join (omega arith) worded (t .0)) (c .0)) l, omega arith)
+    puts-join (omega arith) (puts-join (omega arith) (puts-join (omega arith) worded (t .0)) (c .0)) l
 
 put-digits-requires : tie.Need-put-digits-requires
 put-digits-requires c κs = search needs

@@ -1,4 +1,4 @@
--- `runner::step` meets its contract: it decodes as the definition does, an end leaves the run as it was, and any other record is done
+-- `runner::step` meets its contract: it reads as the definition does, an end leaves the run as it was, and any other record is done
 -- and its row written after the others. Assumes nothing.
 use mathlib.Core.Path.{refl, sym, _∙_}
 use borrow.Author.Needs.{needs}
@@ -8,22 +8,22 @@ use Rattle.runner.proofs.Stepping.{picture-inside, ended, carried-on}
 use Rattle.runner.proofs.step.Statement.{statement}
 use Rattle.runner.proofs.step.Tie as tie
 
-decode-requires : tie.Need-decode-requires
-decode-requires c κs = search needs
+read-at-requires : tie.Need-read-at-requires
+read-at-requires c κs = search needs
 
 is-end-requires : tie.Need-is-end-requires
 is-end-requires c κs = search needs
 
 returns : tie.Need-returns
 returns c =
-    let decoded = c .before .before .decode .ensures .0 in
+    let decoded = c .before .before .read-at .ensures .0 in
     ended _ _ _ _ (rw (← decoded) (sym (c .before .is-end .ensures) ∙ c .if1 .taken))
 
 add-number : tie.Need-add-number
 add-number c = search needs
 
 perform-requires : tie.Need-perform-requires
-perform-requires c κs = rw (c .before .before .before .before .before .before .decode .ensures .0) (picture-inside _ _)
+perform-requires c κs = rw (c .before .before .before .before .before .before .read-at .ensures .0) (picture-inside _ _)
 
 put-row-requires : tie.Need-put-row-requires
 put-row-requires c κs = search needs
@@ -45,7 +45,7 @@ returns-2 c =
     let did = at .perform in
     let goes = at .before .before .before .before .before in
     let start = goes .before .before .before .before .before .before .before in
-    let decoded = goes .before .before .decode .ensures .0 in
+    let decoded = goes .before .before .read-at .ensures .0 in
     carried-on
     (start .args .journal .now)
     (start .args .p)
@@ -58,15 +58,14 @@ returns-2 c =
     (rw (← decoded) (did .ensures))
     (rw (← decoded))
     refl
-    (row .0)
-    (row .1)
+    row
     (start .pre .0)
 
 pub step-spec : {M : Type 1} → statement M
 step-spec =
     tie.close
     (tie.spec
-    decode-requires
+    read-at-requires
     is-end-requires
     returns
     add-number

@@ -1,0 +1,42 @@
+-- `replay::run_fresh` meets its contract: the pieces are run from what the fresh call left. Assumes nothing.
+use borrow.Author.Needs.{needs}
+use Rattle.rules.specs.Table.{freshGauge}
+use Rattle.replay.proofs.run_fresh.Statement.{statement}
+use Rattle.replay.proofs.run_fresh.Tie as tie
+
+fresh-requires : tie.Need-fresh-requires
+fresh-requires c κs = search needs
+
+run-all-requires : tie.Need-run-all-requires
+run-all-requires c κs = search needs
+
+same-length : tie.Need-same-length
+same-length c = search needs
+
+same-length-2 : tie.Need-same-length-2
+same-length-2 c = search needs
+
+same-length-3 : tie.Need-same-length-3
+same-length-3 c = search needs
+
+same-length-4 : tie.Need-same-length-4
+same-length-4 c = search needs
+
+returns : tie.Need-returns
+unfolding freshGauge
+returns c =
+    let ran = c .before .before .before .before .before .before .before .before in
+    let started = ran .before .before .before .before .before .before .before .before in
+    rw (← (started .fresh .ensures .0)) (ran .run-all .ensures)
+
+pub run-fresh-spec : {M : Type 1} → statement M
+run-fresh-spec =
+    tie.close
+    (tie.spec
+    fresh-requires
+    run-all-requires
+    same-length
+    same-length-2
+    same-length-3
+    same-length-4
+    returns)
