@@ -18,7 +18,7 @@ enum { FREE = 0, TRACKED = 1 };                     /* states without a line */
 enum {
     BAD_SIZE = 1, BAD_WEIGHT = 2, BAD_ORDER = 3,
     BAD_PICTURE = 4, NO_LINE = 5, LINE_FILLED = 6,
-    AGED = 100, CHANGED = 101, UNKNOWN = 102, STORED = 103, PASSED = 104,
+    DONE = 0, AGED = 100, CHANGED = 101, UNKNOWN = 102, STORED = 103, PASSED = 104,
     HIT = 2000, WANTED = 4000
 };
 
@@ -289,4 +289,35 @@ uint64_t plain_age(uint8_t *table, size_t table_len,
         return BAD_ORDER;
     halve(table, table_len, gauge);
     return AGED;
+}
+
+uint64_t plain_fresh(uint8_t *table, size_t table_len,
+                     uint8_t *gauge, size_t gauge_len,
+                     const uint8_t *lines, size_t lines_len)
+{
+    (void)lines;
+    if (!sizes_fit(table_len, gauge_len, lines_len))
+        return BAD_SIZE;
+    memset(table, 0, table_len);
+    memset(gauge, 0, gauge_len);
+    return DONE;
+}
+
+uint64_t plain_levelled_sum(const uint8_t *table, size_t table_len,
+                            const uint8_t *gauge, size_t gauge_len,
+                            const uint8_t *lines, size_t lines_len,
+                            uint8_t *sum, size_t sum_len)
+{
+    uint64_t ceiling, all = 0;
+
+    (void)lines;
+    if (!sizes_fit(table_len, gauge_len, lines_len) || sum_len != sizeof all)
+        return BAD_SIZE;
+    if (!in_order(table, table_len, gauge, lines_len))
+        return BAD_ORDER;
+    ceiling = get(gauge + CEILING);
+    for (const uint8_t *r = table; r < table + table_len; r += RECORD_BYTES)
+        all += get(r + HEAT) > ceiling ? get(r + HEAT) : ceiling;
+    put(sum, all);
+    return DONE;
 }

@@ -31,4 +31,13 @@ uint64_t plain_age(uint8_t *table, size_t table_len,
                    uint8_t *gauge, size_t gauge_len,
                    const uint8_t *lines, size_t lines_len);
 
+uint64_t plain_fresh(uint8_t *table, size_t table_len,
+                     uint8_t *gauge, size_t gauge_len,
+                     const uint8_t *lines, size_t lines_len);
+
+uint64_t plain_levelled_sum(const uint8_t *table, size_t table_len,
+                            const uint8_t *gauge, size_t gauge_len,
+                            const uint8_t *lines, size_t lines_len,
+                            uint8_t *sum, size_t sum_len);
+
 #endif

@@ -10,8 +10,7 @@
  * Zipf keys; a read that answers wanted is followed by a fill. N counts
  * requests, in the table rounded up to hundreds; times are per call, and a fill
  * is a call of its own. */
-#define _POSIX_C_SOURCE 200809L
-
+#include "clock.h"
 #include "plain.h"
 
 #include <math.h>
@@ -19,7 +18,6 @@
 #include <stdio.h>
 #include <stdlib.h>
 #include <string.h>
-#include <time.h>
 
 uint64_t cot_read(uint8_t *table, size_t table_len, uint8_t *gauge, size_t gauge_len,
                   const uint8_t *lines, size_t lines_len, uint64_t key, uint64_t weight);
@@ -180,15 +178,6 @@ static bool warm_up(struct memory *a, struct memory *b)
         }
     }
     return true;
-}
-
-/* Processor time, so that other programs on the machine weigh less. */
-static double now(void)
-{
-    struct timespec t;
-
-    clock_gettime(CLOCK_PROCESS_CPUTIME_ID, &t);
-    return (double)t.tv_sec * 1e9 + (double)t.tv_nsec;
 }
 
 /* The best times of an implementation, slice by slice of the timed run. */

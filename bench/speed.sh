@@ -12,6 +12,7 @@ flags=(-O2 -std=c11 -Wall -Wextra -Werror)
 mkdir -p "$out"
 gcc "${flags[@]}" -c bench/speed.c -o "$out/speed.o"
 gcc "${flags[@]}" -c bench/plain.c -o "$out/plain.o"
+gcc "${flags[@]}" -Iinclude -o "$out/rare" bench/rare.c "$out/plain.o" "$library" -lm
 
 # The place of a loop in memory changes its speed by up to a tenth. The program
 # is linked at four places, 16 bytes apart; the best of the four counts.
@@ -41,6 +42,11 @@ awk -F'|' '
                    library[row] / plain[row], hits[row]
         }
     }' "$out"/speed-{16,32,48,64}.txt
+
+echo
+echo "Nanoseconds a call that is rare, best of all runs:"
+echo
+"$out/rare"
 
 if ! command -v valgrind > /dev/null; then
     echo "speed.sh: no valgrind here, so no instruction counts" >&2

@@ -87,11 +87,34 @@ static int age(void)
     return 1;
 }
 
+/* A number that the library keeps: 8 bytes, least significant first. */
+static uint64_t number_at(const uint8_t bytes[8])
+{
+    uint64_t number = 0;
+    for (int i = 7; i >= 0; i--)
+        number = number << 8 | bytes[i];
+    return number;
+}
+
+/* The total, and the levelled sum, which never exceeds it. */
+static int report(void)
+{
+    uint8_t sum[COT_SUM_BYTES];
+    if (!checked(cot_levelled_sum(table, sizeof table, gauge, sizeof gauge, lines, sizeof lines,
+                                  sum, sizeof sum)))
+        return 0;
+    printf("total %" PRIu64 ", levelled sum %" PRIu64 "\n", number_at(gauge), number_at(sum));
+    return 1;
+}
+
 int main(void)
 {
-    /* A fresh cache: the table and the gauge are zero. The lines may hold any bytes. */
-    memset(table, 0, sizeof table);
-    memset(gauge, 0, sizeof gauge);
+    /* Memory may come with any bytes in it. */
+    memset(table, 0xee, sizeof table);
+    memset(gauge, 0xee, sizeof gauge);
+    memset(lines, 0xee, sizeof lines);
+    if (!checked(cot_fresh(table, sizeof table, gauge, sizeof gauge, lines, sizeof lines)))
+        return 1;
 
     int good = sort(5, 3)     /* wanted: the picture is fetched and filled */
                && sort(5, 1)  /* hit */
@@ -100,6 +123,7 @@ int main(void)
                && sort(5, 1)  /* wanted again */
                && sort(5, 1)  /* hit, with the new picture */
                && age()       /* every heat is halved; the picture stays */
-               && sort(5, 1); /* hit */
+               && sort(5, 1)  /* hit */
+               && report();
     return good ? 0 : 1;
 }

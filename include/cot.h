@@ -6,17 +6,28 @@
  *            first
  *   lines    C lines of COT_LINE_BYTES, numbered from 0, C from 0 to K - 1
  *   picture  COT_LINE_BYTES, copied by cot_fill
- * All that the cache knows is in this memory.
+ *   sum      COT_SUM_BYTES, a 64-bit number as in the gauge, written by cot_levelled_sum
+ * All that the cache knows is in the first three.
  *
  * A length is in bytes. Each pointer must be good for its length. A length of 0 may come with any
  * pointer, NULL too. The buffers of one call must not overlap. Any alignment will do.
  *
- * To start with a fresh cache, set every byte of the table and of the gauge to zero. The lines may
- * hold any bytes. From then on lend the same three buffers to each call, and let only the library
- * write to them. The host may read them at any time between calls.
+ * To start with a fresh cache, call cot_fresh, or set every byte of the table and of the gauge to
+ * zero, which is the same. The lines may hold any bytes. From then on lend the same three buffers,
+ * whole, to each call, and let only the library write to them. The host may read them at any time
+ * between calls.
+ *
+ * Use the line of a hit before the next call: any later read, update or fill may give the line to
+ * another key or put another picture into it.
+ *
+ * A picture that was fetched before an update of its key is the old one. cot_fill cannot tell: it
+ * stores what it is lent, and later reads answer hit with it. So after an update drop what was
+ * fetched for that key before it, and fetch again when a read answers wanted.
  *
  * Calls on the same buffers must not run at the same time: the library takes no lock. Calls on
- * different buffers may.
+ * different buffers may. A call takes less than 2 KiB of stack, and returns.
+ *
+ * docs/FORMATS.md has the fields of a record and when a table is in order; a host needs neither.
  *
  * A refused call leaves all lent memory as it was.
  */
@@ -34,15 +45,17 @@ extern "C" {
 #define COT_RECORD_BYTES 32
 #define COT_LINE_BYTES 64
 #define COT_GAUGE_BYTES 16
+#define COT_SUM_BYTES 8
 
 /* Limits. */
 #define COT_MOST_RECORDS 1024
 #define COT_MOST_WEIGHT 65535
+#define COT_MOST_TOTAL 4294967295 /* L: a read that would pass it ages first */
 
-/* Returned by a refused call. The tests come in this order: sizes; weight or picture; order; no
- * line; filled. */
+/* Returned by a refused call: 1 to 99, see cot_is_refused. The tests come in this order: sizes;
+ * weight or picture; order; no line; filled. */
 #define COT_REFUSED_SIZES 1   /* table not whole records, K outside 1 to 1,024, lines not whole,
-                                 C not under K, or gauge bytes not 16 */
+                                 C not under K, gauge bytes not 16, or sum bytes not 8 */
 #define COT_REFUSED_WEIGHT 2  /* read or update: weight 0 or over 65,535 */
 #define COT_REFUSED_ORDER 3   /* the table is not in order */
 #define COT_REFUSED_PICTURE 4 /* fill: the picture has not 64 bytes */
@@ -50,6 +63,7 @@ extern "C" {
 #define COT_REFUSED_FILLED 6  /* fill: the key's line is filled already */
 
 /* Returned by an accepted call. */
+#define COT_DONE 0      /* fresh, levelled sum */
 #define COT_AGED 100    /* age */
 #define COT_CHANGED 101 /* update: the key is tracked; a line it had is empty or another's now */
 #define COT_UNKNOWN 102 /* update: the key is not tracked; nothing has changed */
@@ -57,6 +71,12 @@ extern "C" {
 #define COT_PASSED 104  /* read: the key has no line */
 #define COT_HIT 2000    /* read: COT_HIT + n, the key's picture is in line n */
 #define COT_WANTED 4000 /* read: COT_WANTED + n, the key has line n, which is to be filled */
+
+/* Starts a cache: every byte of the table and of the gauge becomes zero, whatever they held. The
+ * lines keep their bytes.
+ * Returns COT_DONE; refused: sizes. */
+uint64_t cot_fresh(uint8_t *table, size_t table_len, uint8_t *gauge, size_t gauge_len,
+                   const uint8_t *lines, size_t lines_len);
 
 /* Asks for the picture of a key. The weight is the number of pieces waiting.
  * Returns COT_HIT + n, COT_WANTED + n or COT_PASSED; refused: sizes, weight, order. */
@@ -75,16 +95,23 @@ uint64_t cot_fill(uint8_t *table, size_t table_len, const uint8_t *gauge, size_t
                   uint8_t *lines, size_t lines_len, uint64_t key, const uint8_t *picture,
                   size_t picture_len);
 
-/* Halves every heat and slack, the total and the ceiling. A read does so first where the total
- * would pass 4,294,967,295.
+/* Halves every heat, the total and the ceiling, rounded down, and every slack, rounded up. A read
+ * does so first where the total would pass COT_MOST_TOTAL.
  * Returns COT_AGED; refused: sizes, order. */
 uint64_t cot_age(uint8_t *table, size_t table_len, uint8_t *gauge, size_t gauge_len,
                  const uint8_t *lines, size_t lines_len);
 
+/* Puts the levelled sum into the 8 bytes of sum: over all K records, the larger of heat and
+ * ceiling. A refused call leaves them. From a fresh start on the sum is at most the total.
+ * Returns COT_DONE; refused: sizes, order. */
+uint64_t cot_levelled_sum(const uint8_t *table, size_t table_len, const uint8_t *gauge,
+                          size_t gauge_len, const uint8_t *lines, size_t lines_len, uint8_t *sum,
+                          size_t sum_len);
+
 /* 1 if the returned number is that of a refused call, else 0. */
 static inline int cot_is_refused(uint64_t number)
 {
-    return number >= COT_REFUSED_SIZES && number <= COT_REFUSED_FILLED;
+    return number >= 1 && number < 100;
 }
 
 /* 1 if the returned number is COT_HIT + n, else 0. */

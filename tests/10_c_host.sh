@@ -10,11 +10,14 @@ printf '#include "cot.h"\n' >"$out/header.cpp"
 gcc -std=c11 -Wall -Wextra -Werror -O2 -Iinclude -fsyntax-only "$out/header.c"
 g++ -std=c++17 -Wall -Wextra -Werror -Iinclude -fsyntax-only "$out/header.cpp"
 
-# run NAME SOURCE: compiles, runs, and compares the output with tests/c/NAME.expected.
+# run NAME SOURCE: compiles, runs within 60 seconds, and compares the output with
+# tests/c/NAME.expected.
 run() {
     gcc -std=c11 -Wall -Wextra -Werror -O2 -Iinclude "$2" "$library" -o "$out/$1"
-    if ! "$out/$1" >"$out/$1.out"; then
-        echo "10_c_host: FAILED: $2 ended with an error" >&2
+    status=0
+    timeout 60 "$out/$1" >"$out/$1.out" || status=$?
+    if [ "$status" -ne 0 ]; then
+        echo "10_c_host: FAILED: $2 ended with status $status (124: over 60 s)" >&2
         exit 1
     fi
     if ! diff -u "tests/c/$1.expected" "$out/$1.out"; then

@@ -1,17 +1,18 @@
-//! Group (a): single calls on damaged memory.
+//! Group (a): single calls on damaged memory. Each memory is lent to a read, update, fill or aging,
+//! to a fresh and to a levelled sum.
 
-use crate::harness::{both, Memory};
+use crate::harness::{Both, Memory};
 use crate::lists::STEPS;
 use crate::model::{
-    empty_on, filled_on, gauge_of, not_in_order, put_gauge, put_number, put_records, records_of,
-    wrong_picture, wrong_sizes, wrong_weight, Call, Model, Path, Record,
+    empty_on, filled_on, gauge_of, is_refused, levelled_sum, not_in_order, put_gauge, put_number,
+    put_records, records_of, wrong_picture, wrong_sizes, wrong_weight, Call, Model, Path, Record,
 };
-use crate::model::{L, LINE_BYTES, MOST_WEIGHT, RECORD_BYTES, TRACKED};
+use crate::model::{GAUGE_BYTES, L, LINE_BYTES, MOST_WEIGHT, RECORD_BYTES, SUM_BYTES, TRACKED};
 use crate::random::Random;
 use crate::Counts;
 
 /// Every answer and refusal of each call. Each must come.
-pub const ANSWERS: [&str; 20] = [
+pub const ANSWERS: [&str; 25] = [
     "read 1",
     "read 2",
     "read 3",
@@ -32,28 +33,47 @@ pub const ANSWERS: [&str; 20] = [
     "age 1",
     "age 3",
     "age aged",
+    "fresh 1",
+    "fresh done",
+    "sum 1",
+    "sum 3",
+    "sum done",
 ];
 
-/// Every part of a cause (alone), every pair of causes, the agings of a read and doubled classes. With
-/// the steps of the lists, each must come.
-pub const CAUSES: [&str; 23] = [
+/// Every part of cause 1.
+const SIZES: [&str; 5] = [
     "1: table not whole records",
     "1: K outside 1 to 1,024",
     "1: lines not whole",
     "1: C not under K",
     "1: gauge bytes not 16",
+];
+
+/// Every part of cause 3.
+const ORDER: [&str; 6] = [
     "3: total over L",
     "3: ceiling over total",
     "3: a heat over total",
     "3: a state over 1 + 2 C",
     "3: a free record not zero",
     "3: over C records on lines",
+];
+
+/// The parts of cause 5 (alone), every pair of causes that can hold at once, in the order of tests,
+/// the agings of a read and doubled classes. With the parts of 1 and of 3 (alone) and the steps of
+/// the lists, each must come.
+const CAUSES: [&str; 17] = [
     "5: no record",
     "5: no line",
     "1 and 2",
     "1 and 4",
+    "1 and 3",
+    "1 and 5",
+    "1 and 6",
     "2 and 3",
     "4 and 3",
+    "4 and 5",
+    "4 and 6",
     "3 and 5",
     "3 and 6",
     "read 1: not aged",
@@ -62,9 +82,30 @@ pub const CAUSES: [&str; 23] = [
     "doubled line",
 ];
 
+/// What fresh and a levelled sum must meet, besides each part of 1 and, for the sum, of 3 (alone).
+const FRESH_AND_SUM: [&str; 17] = [
+    "fresh 1 and 3",
+    "fresh done: in order",
+    "fresh done: not in order",
+    "fresh done: K = 1",
+    "fresh done: K = 1,024",
+    "sum 1: sum bytes not 8",
+    "sum 1: 0 sum bytes",
+    "sum 1: 7 sum bytes",
+    "sum 1: 9 sum bytes",
+    "sum 1 and 3",
+    "sum done: K = 1",
+    "sum done: an odd K over 1",
+    "sum done: K = 1,024",
+    "sum done: a heat below the ceiling",
+    "sum done: a free record below the ceiling",
+    "sum done: over L",
+    "sum done: total L",
+];
+
 /// Special inputs: good ones in an accepted call, bad ones in a call refused for that cause. Each
 /// must come.
-pub const INPUTS: [&str; 29] = [
+const INPUTS: [&str; 29] = [
     "K = 1",
     "K = 1,023",
     "K = 1,024",
@@ -103,8 +144,11 @@ pub fn answer_name(call: &Call, number: u64) -> &'static str {
         Call::Update { .. } => "update ",
         Call::Fill { .. } => "fill ",
         Call::Age => "age ",
+        Call::Fresh => "fresh ",
+        Call::LevelledSum => "sum ",
     };
     let end = match number {
+        0 => "done",
         1 => "1",
         2 => "2",
         3 => "3",
@@ -128,28 +172,32 @@ pub fn answer_name(call: &Call, number: u64) -> &'static str {
         .unwrap_or("another number")
 }
 
-/// One call and the bytes that it is lent.
+/// One call and the bytes that it is lent, with the length of the sum that the same memory is lent
+/// with to a levelled sum.
 struct Case {
     table: Vec<u8>,
     gauge: Vec<u8>,
     lines: Vec<u8>,
+    sum: usize,
     call: Call,
 }
 
 /// Lends every length from 0 to past the good ones, in each of the calls. Gives how many calls.
 pub fn every_length(seed: u64, model: &Model) -> Result<u64, String> {
     let mut lengths = Vec::new();
-    // Table, gauge, lines and picture bytes. All else fits K = 3, C = 1 and a picture.
-    lengths.extend((0..=200).chain(32_700..=32_833).map(|n| (n, 16, 64, 64)));
-    lengths.extend((0..=40).map(|n| (96, n, 64, 64)));
-    lengths.extend((0..=260).map(|n| (96, 16, n, 64)));
-    lengths.extend((0..=130).map(|n| (96, 16, 64, n)));
+    // Table, gauge, lines, picture and sum bytes. All else fits K = 3, C = 1, a picture and a sum.
+    let tables = (0..=200).chain(32_700..=32_833);
+    lengths.extend(tables.map(|n| [n, 16, 64, 64, 8]));
+    lengths.extend((0..=40).map(|n| [96, n, 64, 64, 8]));
+    lengths.extend((0..=260).map(|n| [96, 16, n, 64, 8]));
+    lengths.extend((0..=130).map(|n| [96, 16, 64, n, 8]));
+    lengths.extend((0..=24).map(|n| [96, 16, 64, 64, n]));
     // C = K - 1, K and K + 1 at the largest K and past it.
     for k in [1_023, 1_024, 1_025] {
-        lengths.extend((k - 2..=k + 1).map(|c| (32 * k, 16, 64 * c, 64)));
+        lengths.extend((k - 2..=k + 1).map(|c| [32 * k, 16, 64 * c, 64, 8]));
     }
     let mut calls = 0;
-    for (table, gauge, lines, picture) in lengths {
+    for [table, gauge, lines, picture, sum] in lengths {
         let mut random = Random::new(seed, 2, calls);
         let picture = random.bytes(picture);
         for call in [
@@ -157,25 +205,44 @@ pub fn every_length(seed: u64, model: &Model) -> Result<u64, String> {
             Call::Update { key: 5, weight: 3 },
             Call::Fill { key: 5, picture },
             Call::Age,
+            Call::Fresh,
+            Call::LevelledSum,
         ] {
             let lines = random.bytes(lines);
-            let zero = vec![0; table.max(gauge)];
-            let mut librarys = Memory::new(&zero[..table], &zero[..gauge], &lines, &mut random);
-            let mut models = librarys.clone();
-            let mut path = Path::new();
-            both(
-                model,
-                &mut models,
-                &mut librarys,
-                &call,
-                &mut random,
-                &mut path,
-            )
-            .map_err(|text| format!("seed {seed}, every length, call {calls}: {text}"))?;
+            let (table, gauge) = match call {
+                // Any bytes: the last byte of a table in order is 0 already.
+                Call::Fresh => (random.bytes(table), random.bytes(gauge)),
+                _ => in_order_of(table, gauge),
+            };
+            let mut memory = Memory::new(&table, &gauge, &lines, &mut random);
+            memory.sum.set_len(sum);
+            Both::new(model, memory)
+                .call(&call, &mut random, &mut Path::new())
+                .map_err(|text| format!("seed {seed}, every length, call {calls}: {text}"))?;
             calls += 1;
         }
     }
     Ok(calls)
+}
+
+/// A table and a gauge of these lengths, in order where the lengths are good, and not zero: heats
+/// below and above the ceiling, and no record on a line.
+fn in_order_of(table: usize, gauge: usize) -> (Vec<u8>, Vec<u8>) {
+    let records: Vec<Record> = (0..=table as u64 / RECORD_BYTES as u64)
+        .map(|place| Record {
+            key: place,
+            heat: place % 10,
+            slack: 1,
+            state: TRACKED,
+        })
+        .collect();
+    let mut table_bytes = vec![0; RECORD_BYTES * records.len()];
+    put_records(&mut table_bytes, &records);
+    table_bytes.truncate(table);
+    let mut gauge_bytes = vec![0; gauge.max(GAUGE_BYTES)];
+    put_gauge(&mut gauge_bytes, 9, 2);
+    gauge_bytes.truncate(gauge);
+    (table_bytes, gauge_bytes)
 }
 
 /// Runs the single calls. Stops at the first difference.
@@ -183,27 +250,34 @@ pub fn run(seed: u64, calls: u64, model: &Model, counts: &mut Counts) -> Result<
     for number in 0..calls {
         let mut random = Random::new(seed, 1, number);
         let case = damaged(&mut random);
-        let mut librarys = Memory::new(&case.table, &case.gauge, &case.lines, &mut random);
-        let mut models = librarys.clone();
-        let mut path = Path::new();
-        let found = both(
-            model,
-            &mut models,
-            &mut librarys,
-            &case.call,
-            &mut random,
-            &mut path,
-        )
-        .map_err(|text| format!("seed {seed}, single call {number}: {text}"))?;
-        counts.add(answer_name(&case.call, found));
-        for step in path {
-            counts.add(step);
+        let mut memory = Memory::new(&case.table, &case.gauge, &case.lines, &mut random);
+        memory.sum.set_len(case.sum);
+        for call in [&case.call, &Call::Fresh, &Call::LevelledSum] {
+            let mut path = Path::new();
+            let found = Both::new(model, memory.clone())
+                .call(call, &mut random, &mut path)
+                .map_err(|text| format!("seed {seed}, single call {number}: {text}"))?;
+            counts.add(answer_name(call, found));
+            match call {
+                Call::Fresh => count_fresh(&case, found, &path, counts),
+                Call::LevelledSum => count_sum(&case, found, &path, counts),
+                _ => {
+                    for step in path {
+                        counts.add(step);
+                    }
+                    count_pairs(&case, found, counts);
+                    count_inputs(&case, found, counts);
+                }
+            }
         }
-        count_pairs(&case, found, counts);
-        count_inputs(&case, found, counts);
     }
-    for name in ANSWERS.iter().chain(&CAUSES).chain(&STEPS).chain(&INPUTS) {
-        if counts.of(name) == 0 {
+    let mut names: Vec<String> = SIZES.map(|part| format!("fresh {part}")).into();
+    names.extend(SIZES.iter().chain(&ORDER).map(|part| format!("sum {part}")));
+    let alone = SIZES.iter().chain(&ORDER).chain(&CAUSES).chain(&STEPS);
+    let rest = ANSWERS.iter().chain(&FRESH_AND_SUM).chain(&INPUTS);
+    names.extend(alone.chain(rest).map(|name| name.to_string()));
+    for name in names {
+        if counts.of(&name) == 0 {
             return Err(format!(
                 "seed {seed}, {calls} single calls: '{name}' never came"
             ));
@@ -212,44 +286,45 @@ pub fn run(seed: u64, calls: u64, model: &Model, counts: &mut Counts) -> Result<
     Ok(())
 }
 
-/// Counts calls in which two causes hold, and accepted calls on doubled keys and lines.
+/// Whether cause 3 holds. Where sizes are wrong, it is read off the whole records and whole lines
+/// that there are.
+fn out_of_order(case: &Case) -> bool {
+    case.gauge.len() == GAUGE_BYTES
+        && !not_in_order(&case.table, &case.gauge, &case.lines).is_empty()
+}
+
+/// Counts pairs of causes, the first in the order of tests with each other that holds too, and
+/// accepted calls on doubled keys and lines.
 fn count_pairs(case: &Case, found: u64, counts: &mut Counts) {
-    let wrong_2 = match &case.call {
-        Call::Read { weight, .. } | Call::Update { weight, .. } => wrong_weight(*weight),
-        _ => false,
-    };
-    let wrong_4 = match &case.call {
-        Call::Fill { picture, .. } => wrong_picture(picture),
-        _ => false,
-    };
-    if !wrong_sizes(&case.table, &case.gauge, &case.lines).is_empty() {
-        if wrong_2 {
-            counts.add("1 and 2");
-        }
-        if wrong_4 {
-            counts.add("1 and 4");
-        }
-        return;
-    }
     let records = records_of(&case.table);
-    if !not_in_order(&case.table, &case.gauge, &case.lines).is_empty() {
-        if wrong_2 {
-            counts.add("2 and 3");
-        }
-        if wrong_4 {
-            counts.add("4 and 3");
-        }
-        if let (Call::Fill { key, .. }, false) = (&case.call, wrong_4) {
-            let own = records.iter().find(|r| r.key == *key && !r.is_free());
-            match own {
-                Some(record) if record.is_filled() => counts.add("3 and 6"),
-                Some(record) if record.line().is_some() => {}
-                _ => counts.add("3 and 5"),
-            }
-        }
-        return;
+    let mut causes = Vec::new();
+    if !wrong_sizes(&case.table, &case.gauge, &case.lines).is_empty() {
+        causes.push(1);
     }
-    if found >= 100 {
+    match &case.call {
+        Call::Read { weight, .. } | Call::Update { weight, .. } if wrong_weight(*weight) => {
+            causes.push(2)
+        }
+        Call::Fill { picture, .. } if wrong_picture(picture) => causes.push(4),
+        _ => {}
+    }
+    if out_of_order(case) {
+        causes.push(3);
+    }
+    if let Call::Fill { key, .. } = &case.call {
+        let own = records.iter().find(|r| r.key == *key && !r.is_free());
+        match own {
+            Some(record) if record.is_filled() => causes.push(6),
+            Some(record) if record.line().is_some() => {}
+            _ => causes.push(5),
+        }
+    }
+    if let Some((first, others)) = causes.split_first() {
+        for other in others {
+            counts.add(&format!("{first} and {other}"));
+        }
+    }
+    if !is_refused(found) {
         let tracked: Vec<&Record> = records.iter().filter(|r| !r.is_free()).collect();
         if doubled(tracked.iter().map(|r| r.key).collect()) {
             counts.add("doubled key");
@@ -260,14 +335,53 @@ fn count_pairs(case: &Case, found: u64, counts: &mut Counts) {
     }
 }
 
+/// Counts what a fresh met.
+fn count_fresh(case: &Case, found: u64, path: &Path, counts: &mut Counts) {
+    for step in path {
+        counts.add(&format!("fresh {step}"));
+    }
+    let (refused, wrong) = (is_refused(found), out_of_order(case));
+    counts.add_if("fresh 1 and 3", refused && wrong);
+    counts.add_if("fresh done: in order", !refused && !wrong);
+    counts.add_if("fresh done: not in order", !refused && wrong);
+    let k = case.table.len() / RECORD_BYTES;
+    counts.add_if("fresh done: K = 1", !refused && k == 1);
+    counts.add_if("fresh done: K = 1,024", !refused && k == 1_024);
+}
+
+/// Counts what a levelled sum met.
+fn count_sum(case: &Case, found: u64, path: &Path, counts: &mut Counts) {
+    for step in path {
+        counts.add(&format!("sum {step}"));
+    }
+    counts.add_if("sum 1 and 3", found == 1 && out_of_order(case));
+    let length_alone = path == &["1: sum bytes not 8"];
+    counts.add_if("sum 1: 0 sum bytes", length_alone && case.sum == 0);
+    counts.add_if("sum 1: 7 sum bytes", length_alone && case.sum == 7);
+    counts.add_if("sum 1: 9 sum bytes", length_alone && case.sum == 9);
+    if !is_refused(found) {
+        let records = records_of(&case.table);
+        let (total, ceiling) = gauge_of(&case.gauge);
+        let k = records.len();
+        counts.add_if("sum done: K = 1", k == 1);
+        counts.add_if("sum done: an odd K over 1", k > 1 && k % 2 == 1);
+        counts.add_if("sum done: K = 1,024", k == 1_024);
+        let below = |free| {
+            let below = |r: &Record| r.is_free() == free && r.heat < ceiling;
+            records.iter().any(below)
+        };
+        counts.add_if("sum done: a heat below the ceiling", below(false));
+        counts.add_if("sum done: a free record below the ceiling", below(true));
+        let sum = levelled_sum(&records, ceiling);
+        counts.add_if("sum done: over L", sum > u128::from(L));
+        counts.add_if("sum done: total L", total == L);
+    }
+}
+
 /// Counts the special inputs.
 fn count_inputs(case: &Case, found: u64, counts: &mut Counts) {
-    let accepted = found >= 100;
-    let mut count = |name: &'static str, holds: bool| {
-        if holds {
-            counts.add(name);
-        }
-    };
+    let accepted = !is_refused(found);
+    let mut count = |name: &str, holds: bool| counts.add_if(name, holds);
     let (table, gauge, lines) = (case.table.len(), case.gauge.len(), case.lines.len());
     count("K = 1", accepted && table == 32);
     count("K = 1,023", accepted && table == 32 * 1_023);
@@ -297,7 +411,7 @@ fn count_inputs(case: &Case, found: u64, counts: &mut Counts) {
             count("picture of 64 bytes", accepted && picture.len() == 64);
             count("picture of 65 bytes", found == 4 && picture.len() == 65);
         }
-        Call::Age => {}
+        Call::Age | Call::Fresh | Call::LevelledSum => {}
     }
     if found == 3 || accepted {
         let records = records_of(&case.table);
@@ -392,10 +506,15 @@ fn damaged(random: &mut Random) -> Case {
             wrong_length(&mut table, &mut gauge, &mut lines, random);
         }
     }
+    let sum = match random.below(20) {
+        0 => random.pick(&[0, 7, 9, 16, 24]),
+        _ => SUM_BYTES,
+    };
     Case {
         table,
         gauge,
         lines,
+        sum,
         call,
     }
 }

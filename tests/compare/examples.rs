@@ -1,9 +1,11 @@
-//! Group (d): the examples of document 01 that concern the four calls. Each test has the
-//! document's sentence. The two examples with journals concern the program `replay` only.
+//! Group (d): the examples of document 01 that concern the exported calls, and levelled sums worked
+//! out by hand. Each test has the document's sentence. The two examples with journals concern the
+//! program `replay` only.
 
-use crate::harness::{both, call_text, Memory};
+use crate::harness::{call_text, Both, Memory};
 use crate::model::{
-    gauge_of, put_gauge, put_records, records_of, Call, Model, Path, Record, Replay,
+    gauge_of, is_refused, number_at, put_gauge, put_records, records_of, Call, Model, Path, Record,
+    Replay,
 };
 use crate::random::Random;
 
@@ -14,7 +16,7 @@ pub type Example = (
     fn(&Model, u64) -> Result<(), String>,
 );
 
-pub const EXAMPLES: [Example; 10] = [
+pub const EXAMPLES: [Example; 12] = [
     (
         "thirteen rows",
         "Journal: read 5 w 3; fill 5; ... read 9 w 1. Output, whole: 1 wanted 3 0 ... 13 wanted 8 1",
@@ -67,69 +69,104 @@ pub const EXAMPLES: [Example; 10] = [
         "Leaving a cooled class on its line (row 8).",
         cooled_class,
     ),
+    (
+        "fresh",
+        "Fresh: every table byte and the gauge are zero. The lines keep their bytes.",
+        fresh_on_any_bytes,
+    ),
+    (
+        "levelled sum",
+        "The sum, over all K records, of the larger of heat and ceiling; free records count with \
+         heat 0.",
+        levelled_sums,
+    ),
 ];
 
-/// The library's memory, the model's and, for a list from fresh, the replay.
+/// The memory and, for a list from fresh, the replay.
 struct Desk<'a> {
-    model: &'a Model,
-    librarys: Memory,
-    models: Memory,
+    both: Both<'a>,
     replay: Option<Replay>,
     random: Random,
 }
 
 impl<'a> Desk<'a> {
-    fn fresh(model: &'a Model, seed: u64, k: usize, c: usize) -> Desk<'a> {
+    /// Any bytes at all, for K and C that may be wrong.
+    fn dirty(model: &'a Model, seed: u64, k: usize, c: usize) -> Desk<'a> {
         let mut random = Random::new(seed, 5, k as u64);
-        let librarys = Memory::fresh(k, c, &mut random);
         Desk {
-            model,
-            models: librarys.clone(),
-            librarys,
-            replay: Some(Replay::default()),
+            both: Both::new(model, Memory::dirty(k, c, &mut random)),
+            replay: None,
             random,
         }
     }
 
-    /// K = 3, C = 1 and these numbers.
-    fn with(model: &'a Model, seed: u64, gauge: (u64, u64), records: [Record; 3]) -> Desk<'a> {
-        let mut desk = Desk::fresh(model, seed, 3, 1);
-        put_records(desk.librarys.table.bytes_mut(), &records);
-        put_gauge(desk.librarys.gauge.bytes_mut(), gauge.0, gauge.1);
-        desk.models = desk.librarys.clone();
-        desk.replay = None;
+    fn fresh(model: &'a Model, seed: u64, k: usize, c: usize) -> Result<Desk<'a>, String> {
+        let mut desk = Desk::dirty(model, seed, k, c);
+        desk.gives(0, Call::Fresh)?;
+        desk.replay = Some(Replay::default());
+        Ok(desk)
+    }
+
+    /// K and C as given, and these numbers.
+    fn with(
+        model: &'a Model,
+        seed: u64,
+        gauge: (u64, u64),
+        records: &[Record],
+        c: usize,
+    ) -> Desk<'a> {
+        let mut desk = Desk::dirty(model, seed, records.len(), c);
+        let mut memory = desk.both.librarys;
+        put_records(memory.table.bytes_mut(), records);
+        put_gauge(memory.gauge.bytes_mut(), gauge.0, gauge.1);
+        desk.both = Both::new(model, memory);
         desk
     }
 
     /// Makes the call on both; the number must be the one given.
     fn gives(&mut self, number: u64, call: Call) -> Result<(), String> {
-        let found = both(
-            self.model,
-            &mut self.models,
-            &mut self.librarys,
-            &call,
-            &mut self.random,
-            &mut Path::new(),
-        )?;
+        let found = self.both.call(&call, &mut self.random, &mut Path::new())?;
         if found != number {
             let text = call_text(&call);
             return Err(format!("{text} returned {found}, and {number} is due"));
         }
         if let Some(replay) = &mut self.replay {
-            replay.feed(&call, found < 100);
-            let memory = &self.librarys;
-            replay.compare(
-                memory.table.bytes(),
-                memory.gauge.bytes(),
-                memory.lines.bytes(),
-            )?;
+            replay.feed(&call, is_refused(found));
+            let (table, gauge, lines) = self.both.librarys.three();
+            replay.compare(table, gauge, lines)?;
+        }
+        Ok(())
+    }
+
+    /// Every call must give 1.
+    fn wrong_sizes(&mut self) -> Result<(), String> {
+        let sum = Call::LevelledSum;
+        for call in [
+            Call::Fresh,
+            read(5, 3),
+            fill(5),
+            update(5, 1),
+            Call::Age,
+            sum,
+        ] {
+            self.gives(1, call)?;
+        }
+        Ok(())
+    }
+
+    /// The levelled sum must be as given.
+    fn sum(&mut self, due: u64) -> Result<(), String> {
+        self.gives(0, Call::LevelledSum)?;
+        let found = number_at(self.both.librarys.sum.bytes(), 0);
+        if found != due {
+            return Err(format!("levelled sum is {found}, and {due} is due"));
         }
         Ok(())
     }
 
     /// The gauge must be as given.
     fn gauge(&self, total: u64, ceiling: u64) -> Result<(), String> {
-        let found = gauge_of(self.librarys.gauge.bytes());
+        let found = gauge_of(self.both.librarys.gauge.bytes());
         if found != (total, ceiling) {
             return Err(format!(
                 "gauge is {found:?}, and {:?} is due",
@@ -141,7 +178,7 @@ impl<'a> Desk<'a> {
 
     /// The record at a place must be as given.
     fn record(&self, place: usize, due: Record) -> Result<(), String> {
-        let found = records_of(self.librarys.table.bytes())[place];
+        let found = records_of(self.both.librarys.table.bytes())[place];
         if found != due {
             return Err(format!("record {place} is {found:?}, and {due:?} is due"));
         }
@@ -214,47 +251,44 @@ fn rows() -> [(Call, u64, u64, u64); 13] {
 }
 
 fn thirteen_rows(model: &Model, seed: u64) -> Result<(), String> {
-    let mut desk = Desk::fresh(model, seed, 3, 1);
+    let mut desk = Desk::fresh(model, seed, 3, 1)?;
     desk.rows(13)?;
     desk.record(0, record(5, 2, 0, 1))?;
     desk.record(1, record(9, 3, 1, 2))?;
-    desk.record(2, record(11, 1, 1, 1))
+    desk.record(2, record(11, 1, 1, 1))?;
+    // 2 + 3 + 1: no heat is below the ceiling, 1.
+    desk.sum(6)
 }
 
 fn most_records(model: &Model, seed: u64) -> Result<(), String> {
     for c in [0, 1, 1_023] {
         let first = if c == 0 { 104 } else { 4_000 };
         let filled = if c == 0 { 5 } else { 103 };
-        let mut desk = Desk::fresh(model, seed, 1_024, c);
+        let mut desk = Desk::fresh(model, seed, 1_024, c)?;
         desk.gives(first, read(5, 3))?;
         desk.gives(filled, fill(5))?;
         desk.gives(101, update(5, 1))?;
         desk.gives(100, Call::Age)?;
+        desk.sum(1)?;
 
-        let mut desk = Desk::fresh(model, seed, 1_025, c);
-        for call in [read(5, 3), fill(5), update(5, 1), Call::Age] {
-            desk.gives(1, call)?;
-        }
+        Desk::dirty(model, seed, 1_025, c).wrong_sizes()?;
     }
     Ok(())
 }
 
 fn one_record(model: &Model, seed: u64) -> Result<(), String> {
-    let mut desk = Desk::fresh(model, seed, 1, 0);
+    let mut desk = Desk::fresh(model, seed, 1, 0)?;
     desk.gives(104, read(5, 3))?;
     desk.gives(5, fill(5))?;
     desk.gives(101, update(5, 1))?;
     desk.gives(100, Call::Age)?;
+    desk.sum(1)?;
 
-    let mut desk = Desk::fresh(model, seed, 1, 1);
-    for call in [read(5, 3), fill(5), update(5, 1), Call::Age] {
-        desk.gives(1, call)?;
-    }
-    Ok(())
+    Desk::dirty(model, seed, 1, 1).wrong_sizes()
 }
 
 fn most_weight(model: &Model, seed: u64) -> Result<(), String> {
-    let mut desk = Desk::fresh(model, seed, 3, 1);
+    let mut desk = Desk::fresh(model, seed, 3, 1)?;
     desk.gives(4_000, read(5, 65_535))?;
     desk.gives(2, read(5, 65_536))?;
     desk.gauge(65_535, 0)?;
@@ -266,7 +300,7 @@ fn most_weight(model: &Model, seed: u64) -> Result<(), String> {
 
 fn total_at_the_limit(model: &Model, seed: u64) -> Result<(), String> {
     let records = [record(5, 9, 3, 3), record(7, 4, 1, 1), record(0, 0, 0, 0)];
-    let mut desk = Desk::with(model, seed, (4_294_967_294, 5), records);
+    let mut desk = Desk::with(model, seed, (4_294_967_294, 5), &records, 1);
     // "a read of 1: no aging"
     desk.gives(2_000, read(5, 1))?;
     desk.gauge(4_294_967_295, 5)?;
@@ -281,17 +315,20 @@ fn total_at_the_limit(model: &Model, seed: u64) -> Result<(), String> {
 
 fn most_state(model: &Model, seed: u64) -> Result<(), String> {
     let calls = [
-        (read(5, 1), 2_000),
-        (update(5, 1), 101),
-        (fill(5), 6),
-        (Call::Age, 100),
+        (read(5, 1), 2_000, 3),
+        (update(5, 1), 101, 3),
+        (fill(5), 6, 3),
+        (Call::Age, 100, 3),
+        (Call::LevelledSum, 0, 3),
+        // "Fresh gives only 1."
+        (Call::Fresh, 0, 0),
     ];
-    for (call, number) in calls {
-        for (state, number) in [(3, number), (4, 3)] {
+    for (call, with_3, with_4) in calls {
+        for (state, number) in [(3, with_3), (4, with_4)] {
             for place in 0..3 {
                 let mut records = [record(0, 0, 0, 0); 3];
                 records[place] = record(5, 4, 0, state);
-                let mut desk = Desk::with(model, seed, (4, 0), records);
+                let mut desk = Desk::with(model, seed, (4, 0), &records, 1);
                 desk.gives(number, call.clone())?;
             }
         }
@@ -300,7 +337,7 @@ fn most_state(model: &Model, seed: u64) -> Result<(), String> {
 }
 
 fn equal_heat(model: &Model, seed: u64) -> Result<(), String> {
-    let mut desk = Desk::fresh(model, seed, 3, 1);
+    let mut desk = Desk::fresh(model, seed, 3, 1)?;
     desk.rows(3)?;
     desk.record(0, record(5, 4, 0, 3))?;
     // Class 7 comes to heat 4 as well; class 5 stays on its line.
@@ -311,7 +348,7 @@ fn equal_heat(model: &Model, seed: u64) -> Result<(), String> {
 }
 
 fn slack_rounded_up(model: &Model, seed: u64) -> Result<(), String> {
-    let mut desk = Desk::fresh(model, seed, 3, 1);
+    let mut desk = Desk::fresh(model, seed, 3, 1)?;
     desk.rows(12)?;
     desk.record(1, record(9, 2, 1, 1))?;
     desk.true_heat(9, 1)?;
@@ -321,7 +358,7 @@ fn slack_rounded_up(model: &Model, seed: u64) -> Result<(), String> {
 }
 
 fn newcomer_over_cooled_victim(model: &Model, seed: u64) -> Result<(), String> {
-    let mut desk = Desk::fresh(model, seed, 1, 0);
+    let mut desk = Desk::fresh(model, seed, 1, 0)?;
     desk.gives(104, read(1, 5))?;
     // Class 2 takes the place of class 1, whose heat becomes the ceiling.
     desk.gives(104, read(2, 1))?;
@@ -338,7 +375,7 @@ fn newcomer_over_cooled_victim(model: &Model, seed: u64) -> Result<(), String> {
 }
 
 fn cooled_class(model: &Model, seed: u64) -> Result<(), String> {
-    let mut desk = Desk::fresh(model, seed, 3, 1);
+    let mut desk = Desk::fresh(model, seed, 3, 1)?;
     desk.rows(7)?;
     desk.record(0, record(5, 4, 0, 1))?;
     desk.record(1, record(7, 5, 0, 2))?;
@@ -346,4 +383,58 @@ fn cooled_class(model: &Model, seed: u64) -> Result<(), String> {
     desk.gives(101, update(7, 3))?;
     desk.record(0, record(5, 4, 0, 2))?;
     desk.record(1, record(7, 2, 0, 1))
+}
+
+fn fresh_on_any_bytes(model: &Model, seed: u64) -> Result<(), String> {
+    for (k, c) in [(1, 0), (3, 1), (1_024, 1_023)] {
+        let mut desk = Desk::dirty(model, seed, k, c);
+        let lines = desk.both.librarys.lines.bytes().to_vec();
+        desk.gives(0, Call::Fresh)?;
+        let (table, gauge, lines_after) = desk.both.librarys.three();
+        if table.iter().chain(gauge).any(|&byte| byte != 0) {
+            return Err(format!("K = {k}: a byte of the table or gauge is not 0"));
+        }
+        if lines_after != lines {
+            return Err(format!("K = {k}: the lines have other bytes"));
+        }
+    }
+    Ok(())
+}
+
+fn levelled_sums(model: &Model, seed: u64) -> Result<(), String> {
+    let free = record(0, 0, 0, 0);
+    let most = 4_294_967_295;
+    let sums: [((u64, u64), &[Record], u64); 7] = [
+        ((7, 2), &[record(5, 5, 0, 1)], 5),
+        ((7, 6), &[record(5, 5, 0, 1)], 6),
+        ((7, 2), &[free], 2),
+        // 4 + 3 + 3
+        ((12, 3), &[record(5, 4, 9, 1), record(7, 2, 9, 1), free], 10),
+        // 3 + 3 + 3 + 4 + 5
+        (
+            (20, 3),
+            &[
+                record(1, 1, 0, 1),
+                record(2, 2, 0, 1),
+                record(3, 3, 0, 1),
+                record(4, 4, 0, 1),
+                record(5, 5, 0, 1),
+            ],
+            18,
+        ),
+        // The slack does not count. Three of the largest need more than 32 bits.
+        (
+            (most, 0),
+            &[record(1, most, u64::MAX, 1); 3],
+            12_884_901_885,
+        ),
+        // 1,024 of the largest.
+        ((most, most), &[free; 1_024], 4_398_046_510_080),
+    ];
+    for (gauge, records, due) in sums {
+        let mut desk = Desk::with(model, seed, gauge, records, 0);
+        desk.sum(due)
+            .map_err(|text| format!("K = {}, gauge {gauge:?}: {text}", records.len()))?;
+    }
+    Ok(())
 }

@@ -1,7 +1,7 @@
 //! Lent memory with guard bytes, the calls into libcot.a, and their comparison with the model.
 
 use crate::model::{gauge_of, records_of, Call, Model, Path};
-use crate::model::{GAUGE_BYTES, RECORD_BYTES};
+use crate::model::{GAUGE_BYTES, LINE_BYTES, RECORD_BYTES, SUM_BYTES};
 use crate::random::Random;
 
 #[link(name = "cot", kind = "static")]
@@ -44,6 +44,24 @@ extern "C" {
         gauge_len: usize,
         lines: *const u8,
         lines_len: usize,
+    ) -> u64;
+    fn cot_fresh(
+        table: *mut u8,
+        table_len: usize,
+        gauge: *mut u8,
+        gauge_len: usize,
+        lines: *const u8,
+        lines_len: usize,
+    ) -> u64;
+    fn cot_levelled_sum(
+        table: *const u8,
+        table_len: usize,
+        gauge: *const u8,
+        gauge_len: usize,
+        lines: *const u8,
+        lines_len: usize,
+        sum: *mut u8,
+        sum_len: usize,
     ) -> u64;
 }
 
@@ -112,12 +130,14 @@ impl Lent {
     }
 }
 
-/// What one call is lent besides a picture.
+/// What one call is lent besides a picture. Only a levelled sum is lent the sum; no other call may
+/// change it.
 #[derive(Clone)]
 pub struct Memory {
     pub table: Lent,
     pub gauge: Lent,
     pub lines: Lent,
+    pub sum: Lent,
 }
 
 impl Memory {
@@ -126,115 +146,133 @@ impl Memory {
             table: Lent::new(table, random),
             gauge: Lent::new(gauge, random),
             lines: Lent::new(lines, random),
+            sum: Lent::new(&random.bytes(SUM_BYTES), random),
         }
     }
 
-    /// "Fresh: every table byte and the gauge are zero. The lines keep their bytes."
-    pub fn fresh(k: usize, c: usize, random: &mut Random) -> Memory {
-        let lines = random.bytes(64 * c);
-        Memory::new(&vec![0; 32 * k], &[0; 16], &lines, random)
+    /// Any bytes at all, of the right lengths for K and C where these are good.
+    pub fn dirty(k: usize, c: usize, random: &mut Random) -> Memory {
+        let table = random.bytes(RECORD_BYTES * k);
+        let gauge = random.bytes(GAUGE_BYTES);
+        let lines = random.bytes(LINE_BYTES * c);
+        Memory::new(&table, &gauge, &lines, random)
+    }
+
+    /// Table, gauge and lines.
+    pub fn three(&self) -> (&[u8], &[u8], &[u8]) {
+        (self.table.bytes(), self.gauge.bytes(), self.lines.bytes())
+    }
+
+    /// Every buffer with its name.
+    fn named(&self) -> [(&'static str, &Lent); 4] {
+        [
+            ("table", &self.table),
+            ("gauge", &self.gauge),
+            ("lines", &self.lines),
+            ("sum", &self.sum),
+        ]
     }
 }
 
 /// Makes the call on the library.
 pub fn library(memory: &mut Memory, call: &Call, picture: Option<&Lent>) -> u64 {
-    let (table_len, gauge_len, lines_len) = (memory.table.len, memory.gauge.len, memory.lines.len);
-    let table = memory.table.pointer_mut();
+    let [(table, t), (gauge, g), (lines, l), (sum, s)] = [
+        &mut memory.table,
+        &mut memory.gauge,
+        &mut memory.lines,
+        &mut memory.sum,
+    ]
+    .map(|lent| (lent.pointer_mut(), lent.len));
     // SAFETY: each pointer is good for its length, or the length is 0. No two buffers overlap.
     unsafe {
         match call {
-            Call::Read { key, weight } => cot_read(
-                table,
-                table_len,
-                memory.gauge.pointer_mut(),
-                gauge_len,
-                memory.lines.pointer(),
-                lines_len,
-                *key,
-                *weight,
-            ),
-            Call::Update { key, weight } => cot_update(
-                table,
-                table_len,
-                memory.gauge.pointer_mut(),
-                gauge_len,
-                memory.lines.pointer(),
-                lines_len,
-                *key,
-                *weight,
-            ),
+            Call::Read { key, weight } => cot_read(table, t, gauge, g, lines, l, *key, *weight),
+            Call::Update { key, weight } => cot_update(table, t, gauge, g, lines, l, *key, *weight),
             Call::Fill { key, .. } => {
                 let picture = picture.expect("a fill lends a picture");
-                cot_fill(
-                    table,
-                    table_len,
-                    memory.gauge.pointer(),
-                    gauge_len,
-                    memory.lines.pointer_mut(),
-                    lines_len,
-                    *key,
-                    picture.pointer(),
-                    picture.len,
-                )
+                let (picture, p) = (picture.pointer(), picture.len);
+                cot_fill(table, t, gauge, g, lines, l, *key, picture, p)
             }
-            Call::Age => cot_age(
-                table,
-                table_len,
-                memory.gauge.pointer_mut(),
-                gauge_len,
-                memory.lines.pointer(),
-                lines_len,
-            ),
+            Call::Age => cot_age(table, t, gauge, g, lines, l),
+            Call::Fresh => cot_fresh(table, t, gauge, g, lines, l),
+            Call::LevelledSum => cot_levelled_sum(table, t, gauge, g, lines, l, sum, s),
         }
     }
 }
 
-/// Makes one call on the library's memory and on the model's, which start equal, and compares the
-/// returned number and every byte, lent and guard. Gives the number, or what differs.
-pub fn both(
-    model: &Model,
-    models: &mut Memory,
-    librarys: &mut Memory,
-    call: &Call,
-    random: &mut Random,
-    path: &mut Path,
-) -> Result<u64, String> {
-    let before = librarys.clone();
-    let picture = match call {
-        Call::Fill { picture, .. } => Some(Lent::new(picture, random)),
-        _ => None,
-    };
-    let picture_before = picture.clone();
+/// The same memory twice: the library's and the model's.
+pub struct Both<'a> {
+    model: &'a Model,
+    pub librarys: Memory,
+    models: Memory,
+}
 
-    let expected = model
-        .call(
-            models.table.bytes_mut(),
-            models.gauge.bytes_mut(),
-            models.lines.bytes_mut(),
-            call,
-            path,
-        )
-        .number();
-    let found = library(librarys, call, picture.as_ref());
+impl<'a> Both<'a> {
+    pub fn new(model: &'a Model, memory: Memory) -> Both<'a> {
+        Both {
+            model,
+            models: memory.clone(),
+            librarys: memory,
+        }
+    }
 
-    let mut different = Vec::new();
-    if found != expected {
-        different.push(format!("returned {found}, the model {expected}"));
+    /// Lends the same memory with other lengths of table, gauge and lines. Gives the lengths before.
+    pub fn set_lengths(&mut self, lengths: [usize; 3]) -> [usize; 3] {
+        let mut before = [0; 3];
+        for memory in [&mut self.librarys, &mut self.models] {
+            let three = [&mut memory.table, &mut memory.gauge, &mut memory.lines];
+            for ((lent, len), before) in three.into_iter().zip(lengths).zip(&mut before) {
+                *before = lent.len;
+                lent.set_len(len);
+            }
+        }
+        before
     }
-    different.extend(difference("table", &models.table, &librarys.table));
-    different.extend(difference("gauge", &models.gauge, &librarys.gauge));
-    different.extend(difference("lines", &models.lines, &librarys.lines));
-    if let (Some(picture), Some(before)) = (&picture, &picture_before) {
-        different.extend(difference("picture", before, picture));
+
+    /// Makes one call on the library's memory and on the model's, and compares the returned number
+    /// and every byte, lent and guard. Gives the number, or what differs.
+    pub fn call(
+        &mut self,
+        call: &Call,
+        random: &mut Random,
+        path: &mut Path,
+    ) -> Result<u64, String> {
+        let before = self.librarys.clone();
+        let picture = match call {
+            Call::Fill { picture, .. } => Some(Lent::new(picture, random)),
+            _ => None,
+        };
+        let picture_before = picture.clone();
+
+        let lent = [
+            self.models.table.bytes_mut(),
+            self.models.gauge.bytes_mut(),
+            self.models.lines.bytes_mut(),
+            self.models.sum.bytes_mut(),
+        ];
+        let expected = self.model.call(lent, call, path).number();
+        let found = library(&mut self.librarys, call, picture.as_ref());
+
+        let mut different = Vec::new();
+        if found != expected {
+            different.push(format!("returned {found}, the model {expected}"));
+        }
+        let models = self.models.named();
+        for ((name, models), (_, librarys)) in models.into_iter().zip(self.librarys.named()) {
+            different.extend(difference(name, models, librarys));
+        }
+        if let (Some(picture), Some(before)) = (&picture, &picture_before) {
+            different.extend(difference("picture", before, picture));
+        }
+        if different.is_empty() {
+            return Ok(found);
+        }
+        Err(format!(
+            "difference: {}\n{}",
+            different.join("; "),
+            describe(&before, call)
+        ))
     }
-    if different.is_empty() {
-        return Ok(found);
-    }
-    Err(format!(
-        "difference: {}\n{}",
-        different.join("; "),
-        describe(&before, call)
-    ))
 }
 
 /// The first byte that differs, and how many do.
@@ -276,6 +314,8 @@ pub fn call_text(call: &Call) -> String {
             )
         }
         Call::Age => "age".to_string(),
+        Call::Fresh => "fresh".to_string(),
+        Call::LevelledSum => "levelled sum".to_string(),
     }
 }
 
@@ -285,15 +325,11 @@ fn describe(before: &Memory, call: &Call) -> String {
     let table = before.table.bytes();
     let gauge = before.gauge.bytes();
     let mut text = format!("  {}", call_text(call));
-    text += &format!(
-        "\n  table {} bytes, gauge {} bytes, lines {} bytes",
-        table.len(),
-        gauge.len(),
-        before.lines.len
-    );
-    for lent in [&before.table, &before.gauge, &before.lines] {
+    for (number, (name, lent)) in before.named().into_iter().enumerate() {
+        text += if number == 0 { "\n  " } else { ", " };
+        text += &format!("{name} {} bytes", lent.len);
         if lent.len == 0 {
-            text += &format!(", one of length 0 at {:?}", lent.pointer());
+            text += &format!(" at {:?}", lent.pointer());
         }
     }
     if gauge.len() == GAUGE_BYTES {

@@ -1,9 +1,9 @@
-//! Groups (b) and (c): lists of calls from fresh, with demand 3 and the levelled sum's bound
-//! checked by the replay after each call.
+//! Groups (b) and (c): lists of calls from fresh. After each call the library's levelled sum is
+//! compared, and demand 3 and the sum's bound are checked by the replay.
 
 use crate::damaged::answer_name;
-use crate::harness::{both, call_text, Memory};
-use crate::model::{gauge_of, Call, Model, Path, Replay, MOST_WEIGHT};
+use crate::harness::{call_text, Both, Memory};
+use crate::model::{gauge_of, is_refused, Call, Model, Path, Replay, MOST_WEIGHT};
 use crate::random::Random;
 use crate::Counts;
 
@@ -149,10 +149,18 @@ pub fn run(
         End::AgedFirst(agings) => (4, 'c', agings * MOST_CALLS_TO_AN_AGING),
     };
     let mut random = Random::new(seed, part, number);
-    let mut librarys = Memory::fresh(plan.k, plan.c, &mut random);
-    let mut models = librarys.clone();
+    let memory = Memory::dirty(plan.k, plan.c, &mut random);
+    let mut both = Both::new(model, memory);
     let mut replay = Replay::default();
     let mut aged_first = 0;
+    let at_call = |at: &str, text: String| {
+        format!(
+            "seed {seed}, list {number} of group ({group}), K = {}, C = {}, {at}: {text}",
+            plan.k, plan.c
+        )
+    };
+    both.call(&Call::Fresh, &mut random, &mut Path::new())
+        .map_err(|text| at_call("start", text))?;
 
     let mut keys = vec![0, u64::MAX];
     while keys.len() < plan.classes {
@@ -167,34 +175,24 @@ pub fn run(
         }
         let refuse = !plan.reads_only && random.chance(4);
         let (call, lengths) = if refuse {
-            refused_call(&keys, &librarys, &mut random)
+            refused_call(&keys, &both.librarys, &mut random)
         } else {
             (next_call(plan, at, &keys, wanted, &mut random), None)
         };
-        let at_call = |text: String| {
-            format!(
-                "seed {seed}, list {number} of group ({group}), K = {}, C = {}, call {at}: {text}",
-                plan.k, plan.c
-            )
-        };
+        let at_call = |text: String| at_call(&format!("call {at}"), text);
 
         // "A refused call may be lent anything": here the same memory with a wrong length.
-        let whole = set_lengths(&mut librarys, lengths);
-        set_lengths(&mut models, lengths);
+        let whole = lengths.map(|lengths| both.set_lengths(lengths));
         let mut path = Path::new();
-        let found = both(
-            model,
-            &mut models,
-            &mut librarys,
-            &call,
-            &mut random,
-            &mut path,
-        );
-        set_lengths(&mut librarys, Some(whole));
-        set_lengths(&mut models, Some(whole));
-        let found = found.map_err(at_call)?;
+        let found = both.call(&call, &mut random, &mut path).map_err(at_call)?;
+        if let Some(whole) = whole {
+            both.set_lengths(whole);
+        }
+        // The replay looks at the bound of the model's sum; so the library's must be the same.
+        both.call(&Call::LevelledSum, &mut random, &mut Path::new())
+            .map_err(at_call)?;
 
-        let refused = found < 100;
+        let refused = is_refused(found);
         if refuse && !refused {
             let text = call_text(&call);
             return Err(at_call(format!(
@@ -202,19 +200,14 @@ pub fn run(
             )));
         }
         replay.feed(&call, refused);
-        replay
-            .compare(
-                librarys.table.bytes(),
-                librarys.gauge.bytes(),
-                librarys.lines.bytes(),
-            )
-            .map_err(|text| {
-                let (total, ceiling) = gauge_of(librarys.gauge.bytes());
-                at_call(format!(
-                    "demand 3 after {}: {text} (total {total}, ceiling {ceiling})",
-                    call_text(&call)
-                ))
-            })?;
+        let (table, gauge, lines) = both.librarys.three();
+        replay.compare(table, gauge, lines).map_err(|text| {
+            let (total, ceiling) = gauge_of(gauge);
+            at_call(format!(
+                "demand 3 after {}: {text} (total {total}, ceiling {ceiling})",
+                call_text(&call)
+            ))
+        })?;
 
         counts.add(answer_name(&call, found));
         for step in path {
@@ -236,21 +229,6 @@ pub fn run(
              {most} calls"
         )),
     }
-}
-
-/// Lends the same memory with other lengths. Gives the lengths before.
-fn set_lengths(memory: &mut Memory, lengths: Option<[usize; 3]>) -> [usize; 3] {
-    let before = [
-        memory.table.bytes().len(),
-        memory.gauge.bytes().len(),
-        memory.lines.bytes().len(),
-    ];
-    if let Some([table, gauge, lines]) = lengths {
-        memory.table.set_len(table);
-        memory.gauge.set_len(gauge);
-        memory.lines.set_len(lines);
-    }
-    before
 }
 
 /// A class; low numbers come more often, and which classes these are moves on slowly.
@@ -320,14 +298,16 @@ fn refused_call(keys: &[u64], memory: &Memory, random: &mut Random) -> (Call, Op
             (Call::Fill { key, picture }, None)
         }
         _ => {
-            let call = match random.below(4) {
+            let call = match random.below(6) {
                 0 => Call::Read { key, weight: 1 },
                 1 => Call::Update { key, weight: 1 },
                 2 => {
                     let picture = vec![7; 64];
                     Call::Fill { key, picture }
                 }
-                _ => Call::Age,
+                3 => Call::Age,
+                4 => Call::Fresh,
+                _ => Call::LevelledSum,
             };
             let lengths = random.pick(&[
                 [table - 1, 16, lines],

@@ -1,11 +1,11 @@
 //! Compares libcot.a with an independent implementation of document 01: every returned number and
 //! every lent byte, with guard bytes around each buffer.
 //!
-//!     compare [--seed N] [--calls N] [--verbose] [--fault admit-equal]
+//!     compare [--seed N] [--calls N] [--verbose] [--fault NAME]
 //!
 //! --calls is the number of single calls in group (a); lists grow with it. Fewer than 200,000 may
 //! be too few for every answer to come. --verbose prints the counts and the names of the tests.
-//! --fault makes the model admit on equal heat, and the comparison must then fail.
+//! --fault gives the model a deliberate fault (FAULTS), and the comparison must then fail.
 
 mod damaged;
 mod examples;
@@ -14,22 +14,39 @@ mod lists;
 mod model;
 mod random;
 
-use model::Model;
+use model::{Fault, Model};
 use std::collections::BTreeMap;
 use std::process::exit;
 
 const SEED: u64 = 20_210_323;
 const CALLS: u64 = 400_000;
+const USAGE: &str = "compare [--seed N] [--calls N] [--verbose] [--fault NAME]";
+const FAULTS: [(&str, Fault); 3] = [
+    ("admit-equal", Fault::AdmitEqual),
+    ("fresh-keeps", Fault::FreshKeeps),
+    ("sum-heat", Fault::SumHeat),
+];
 
 /// How often each answer and each step came.
 #[derive(Default)]
 pub struct Counts {
-    counts: BTreeMap<&'static str, u64>,
+    counts: BTreeMap<String, u64>,
 }
 
 impl Counts {
-    pub fn add(&mut self, name: &'static str) {
-        *self.counts.entry(name).or_insert(0) += 1;
+    pub fn add(&mut self, name: &str) {
+        match self.counts.get_mut(name) {
+            Some(count) => *count += 1,
+            None => {
+                self.counts.insert(name.to_string(), 1);
+            }
+        }
+    }
+
+    pub fn add_if(&mut self, name: &str, holds: bool) {
+        if holds {
+            self.add(name);
+        }
     }
 
     pub fn of(&self, name: &str) -> u64 {
@@ -104,20 +121,26 @@ fn options() -> Result<Options, String> {
             "--seed" => options.seed = number()?,
             "--calls" => options.calls = number()?,
             "--verbose" => options.verbose = true,
-            "--fault" => match words.next().as_deref() {
-                Some("admit-equal") => options.model.admit_on_equal = true,
-                _ => return Err("--fault: admit-equal is the only one".to_string()),
-            },
+            "--fault" => {
+                let name = words.next().unwrap_or_default();
+                let fault = FAULTS.iter().find(|(own, _)| *own == name);
+                let (_, fault) = fault.ok_or(format!("--fault '{name}': {}", fault_names()))?;
+                options.model.fault = Some(*fault);
+            }
             _ => return Err(format!("unknown word '{word}'")),
         }
     }
     Ok(options)
 }
 
+fn fault_names() -> String {
+    format!("one of {} is due", FAULTS.map(|(name, _)| name).join(", "))
+}
+
 fn main() {
     let options = options().unwrap_or_else(|text| {
         eprintln!("compare: {text}");
-        eprintln!("compare [--seed N] [--calls N] [--verbose] [--fault admit-equal]");
+        eprintln!("{USAGE}");
         exit(2);
     });
     let mut tally = Tally::default();
@@ -139,7 +162,10 @@ fn single_calls(options: &Options, tally: &mut Tally) {
         &options.model,
         &mut counts,
     ));
-    let mut line = format!("(a) {} single calls on damaged memory", options.calls);
+    let mut line = format!(
+        "(a) {} single calls on damaged memory, and a fresh and a levelled sum on each",
+        options.calls
+    );
     if let Some(lengths) = lengths {
         line += &format!(", {lengths} calls with every length");
     }
@@ -185,7 +211,8 @@ fn lists_from_fresh(options: &Options, tally: &mut Tally) {
         });
     }
     tally.end_group(&format!(
-        "(b) {} lists of {calls} calls from fresh, demand 3 and the levelled sum after each call",
+        "(b) {} lists of {calls} calls, each from a fresh on any bytes; demand 3 and the library's \
+         levelled sum after each call",
         plans.len()
     ));
     if options.verbose {

@@ -1,4 +1,4 @@
-//! The rules of document 01 for the four exported calls, and the replay of demand 3.
+//! The rules of document 01 for the exported calls, and the replay of demand 3.
 //!
 //! In document 01's order, and independent of the library's code. Words in quotes are the
 //! document's.
@@ -17,6 +17,8 @@ pub const RECORD_BYTES: usize = 32;
 pub const LINE_BYTES: usize = 64;
 /// "lends the gauge as 16 bytes"
 pub const GAUGE_BYTES: usize = 16;
+/// "a number in 8 bytes": what the levelled sum is written into.
+pub const SUM_BYTES: usize = 8;
 /// "K from 1 to 1,024"
 pub const MOST_RECORDS: usize = 1_024;
 /// "1 to 65,535"
@@ -153,19 +155,22 @@ pub fn not_in_order(table: &[u8], gauge: &[u8], lines: &[u8]) -> Path {
     causes
 }
 
-/// One call with what it is given besides the table, the gauge and the lines.
+/// One call with what it is given besides the table, the gauge, the lines and the sum.
 #[derive(Clone, Debug)]
 pub enum Call {
     Read { key: u64, weight: u64 },
     Update { key: u64, weight: u64 },
     Fill { key: u64, picture: Vec<u8> },
     Age,
+    Fresh,
+    LevelledSum,
 }
 
 /// What a call answers.
 #[derive(Clone, Copy, Debug, PartialEq, Eq)]
 pub enum Answer {
     Refused(u64),
+    Done,
     Aged,
     Changed,
     Unknown,
@@ -177,10 +182,11 @@ pub enum Answer {
 
 impl Answer {
     /// "returns one number: a refusal's own, 100 for aged, 101 changed, 102 unknown, 103 stored,
-    /// 104 passed, 2,000 + n for hit and 4,000 + n for wanted on line n"
+    /// 104 passed, 2,000 + n for hit and 4,000 + n for wanted on line n". Done is 0 in cot.h.
     pub fn number(self) -> u64 {
         match self {
             Answer::Refused(number) => number,
+            Answer::Done => 0,
             Answer::Aged => 100,
             Answer::Changed => 101,
             Answer::Unknown => 102,
@@ -190,6 +196,11 @@ impl Answer {
             Answer::Wanted(line) => 4_000 + line,
         }
     }
+}
+
+/// Whether a returned number is a refusal's own; done is none.
+pub fn is_refused(number: u64) -> bool {
+    (1..100).contains(&number)
 }
 
 /// The names of the steps that a call took, for counting.
@@ -463,6 +474,10 @@ impl Replay {
             return;
         }
         match call {
+            // "The list starts from a fresh table and gauge"
+            Call::Fresh => *self = Replay::default(),
+            // It changes neither table nor gauge nor lines.
+            Call::LevelledSum => {}
             Call::Age => self.age(),
             // "Read: if true total + w exceeds L, an aging first. Then the true total and the
             // key's true heat grow by w."
@@ -642,25 +657,42 @@ pub fn wrong_picture(picture: &[u8]) -> bool {
     picture.len() != LINE_BYTES
 }
 
-/// The four calls on lent bytes.
+/// The levelled sum's own part of cause 1: the sum is "a number in 8 bytes", and any other length
+/// "is refused as a wrong count".
+fn wrong_sum(sum: &[u8]) -> bool {
+    sum.len() != SUM_BYTES
+}
+
+/// A deliberate fault, by which the comparison shows that it finds one.
+#[derive(Clone, Copy, Debug, PartialEq, Eq)]
+pub enum Fault {
+    /// Step 5 of read admits on equal heat too.
+    AdmitEqual,
+    /// Fresh leaves the last byte of the table.
+    FreshKeeps,
+    /// The levelled sum adds heats up, whatever the ceiling is.
+    SumHeat,
+}
+
+/// The calls on lent bytes.
 #[derive(Clone, Copy, Default)]
 pub struct Model {
-    /// A deliberate fault: step 5 of read admits on equal heat too.
-    pub admit_on_equal: bool,
+    pub fault: Option<Fault>,
 }
 
 impl Model {
-    /// Makes one call on the lent table, gauge and lines. A refused call writes nothing.
+    /// Makes one call on the lent table, gauge, lines and sum. A refused call writes nothing.
     pub fn call(
         &self,
-        table: &mut [u8],
-        gauge: &mut [u8],
-        lines: &mut [u8],
+        [table, gauge, lines, sum]: [&mut [u8]; 4],
         call: &Call,
         path: &mut Path,
     ) -> Answer {
         // "Order of tests: 1, then 2 or 4, then 3, 5, 6."
-        let causes = wrong_sizes(table, gauge, lines);
+        let mut causes = wrong_sizes(table, gauge, lines);
+        if matches!(call, Call::LevelledSum) && wrong_sum(sum) {
+            causes.push("1: sum bytes not 8");
+        }
         if !causes.is_empty() {
             if causes.len() == 1 {
                 path.push(causes[0]);
@@ -678,7 +710,12 @@ impl Model {
                     return Answer::Refused(4);
                 }
             }
-            Call::Age => {}
+            // "Fresh gives only 1."
+            Call::Fresh => {
+                self.fresh(table, gauge);
+                return Answer::Done;
+            }
+            Call::Age | Call::LevelledSum => {}
         }
         let causes = not_in_order(table, gauge, lines);
         if !causes.is_empty() {
@@ -696,15 +733,37 @@ impl Model {
             c: (lines.len() / LINE_BYTES) as u64,
         };
         let answer = match call {
-            Call::Read { key, weight } => cache.read(*key, *weight, self.admit_on_equal, path),
+            Call::Read { key, weight } => {
+                let admit_on_equal = self.fault == Some(Fault::AdmitEqual);
+                cache.read(*key, *weight, admit_on_equal, path)
+            }
             Call::Update { key, weight } => cache.update(*key, *weight, path),
             Call::Fill { key, picture } => cache.fill(lines, *key, picture, path),
             Call::Age => cache.age(),
+            Call::LevelledSum => {
+                let level = if self.fault == Some(Fault::SumHeat) {
+                    0
+                } else {
+                    ceiling
+                };
+                // At most 1,024 numbers of at most L: 8 bytes hold them.
+                put_number(sum, 0, levelled_sum(&cache.records, level) as u64);
+                return Answer::Done;
+            }
+            Call::Fresh => unreachable!("answered before the order is tested"),
         };
         // Causes 5 and 6 are found before any number changes, so this writes back the same.
         put_records(table, &cache.records);
         put_gauge(gauge, cache.total, cache.ceiling);
         answer
+    }
+
+    /// "Fresh: every table byte and the gauge are zero. The lines keep their bytes."
+    fn fresh(&self, table: &mut [u8], gauge: &mut [u8]) {
+        let kept = usize::from(self.fault == Some(Fault::FreshKeeps));
+        let count = table.len() - kept;
+        table[..count].fill(0);
+        gauge.fill(0);
     }
 }
 

@@ -6,12 +6,14 @@ use mathlib.Core.List.{List}
 use borrow.Author.Tests.{eq-eqb, ne-eqb}
 use lib.ListN.{length}
 use Rattle.rules.specs.declared.Answer.{Answer}
+use Rattle.rules.specs.declared.Completion.{Completion}
+use Rattle.rules.specs.declared.Levels.{Levels}
 use Rattle.rules.specs.declared.Gauge.{Gauge}
-use Rattle.rules.specs.Bytes.{gaugeSize, gaugeAt, putGauge}
-use Rattle.rules.specs.Answers.{numberOf, wrongSizes}
+use Rattle.rules.specs.Bytes.{numberSize, gaugeSize, gaugeAt, putGauge}
+use Rattle.rules.specs.Answers.{numberOf, completionNumber, wrongSizes}
 use Rattle.rules.specs.Table.{Memory}
 use Rattle.rules.specs.Steps.{Outcome, outcome}
-use Rattle.rules.specs.Calls.{lent, verdict, unless, hostLent, held, stored, gaugeTest, hosted, exported}
+use Rattle.rules.specs.Calls.{lent, verdict, unless, freshOutcome, levelledOutcome, hostLent, held, stored, gaugeTest, hosted, exported, exportedFresh, sumTest, putLevels, exportedSum}
 
 module _ (call : Memory → Outcome Answer Memory) (table gauge lines : List ℕ) where
   pub wrong-gauge : (length gauge ≡ gaugeSize → ⊥) →
@@ -25,3 +27,33 @@ module _ (call : Memory → Outcome Answer Memory) (table gauge lines : List ℕ
       outcome n (hostLent table′ gauge′ lines′) ≡ exported call (hostLent table gauge lines)
   unfolding exported hosted gaugeTest verdict unless held stored
   right-gauge sized is done number put = rw (eq-eqb _ _ sized, ← is, ← done, number, put)
+
+-- ---- fresh, whose answer is a completion
+module _ (table gauge lines : List ℕ) where
+  pub fresh-wrong-gauge : (length gauge ≡ gaugeSize → ⊥) →
+      outcome wrongSizes (hostLent table gauge lines) ≡ exportedFresh (hostLent table gauge lines)
+  unfolding exportedFresh gaugeTest verdict unless
+  fresh-wrong-gauge differs = rw (ne-eqb _ _ differs)
+
+  pub fresh-right-gauge : {table′ gauge′ lines′ : List ℕ} {g g′ : Gauge} {a : Completion} {n : ℕ} →
+      length gauge ≡ gaugeSize → g ≡ gaugeAt gauge → outcome a (lent table′ g′ lines′) ≡ freshOutcome (lent table g lines) →
+      n ≡ completionNumber a → gauge′ ≡ putGauge gauge g′ →
+      outcome n (hostLent table′ gauge′ lines′) ≡ exportedFresh (hostLent table gauge lines)
+  unfolding exportedFresh gaugeTest verdict unless held stored
+  fresh-right-gauge sized is done number put = rw (eq-eqb _ _ sized, ← is, ← done, number, put)
+
+  -- ---- the levelled sum, into lent bytes
+  module _ (sum : List ℕ) where
+    pub sum-wrong-gauge : (length gauge ≡ gaugeSize → ⊥) → outcome wrongSizes sum ≡ exportedSum (hostLent table gauge lines) sum
+    unfolding exportedSum gaugeTest verdict unless
+    sum-wrong-gauge differs = rw (ne-eqb _ _ differs)
+
+    pub sum-wrong-length : length gauge ≡ gaugeSize → (length sum ≡ numberSize → ⊥) →
+        outcome wrongSizes sum ≡ exportedSum (hostLent table gauge lines) sum
+    unfolding exportedSum gaugeTest sumTest verdict unless
+    sum-wrong-length sized differs = rw (eq-eqb _ _ sized, ne-eqb _ _ differs)
+
+    pub sum-right-sizes : {g : Gauge} {l : Levels} → length gauge ≡ gaugeSize → length sum ≡ numberSize → g ≡ gaugeAt gauge →
+        l ≡ levelledOutcome (lent table g lines) → putLevels sum l ≡ exportedSum (hostLent table gauge lines) sum
+    unfolding exportedSum gaugeTest sumTest verdict unless held
+    sum-right-sizes sized long is said = rw (eq-eqb _ _ sized, eq-eqb _ _ long, ← is, said)

@@ -3,18 +3,25 @@ ghost use mathlib.Core.Path.{_≡_};
 ghost use Prim.Native.Nat.{_<_, _^_};
 ghost use lib.ListN.{length};
 ghost use Rattle.rules.specs.Bytes.{gaugeSize, gaugeAt, putGauge};
-ghost use Rattle.rules.specs.Answers.{numberOf};
+ghost use Rattle.rules.specs.Answers.{numberOf, completionNumber};
 ghost use Rattle.rules.specs.Steps.{outcome};
-ghost use Rattle.rules.specs.Calls.{hostLent, exported, readOutcome, updateOutcome, fillOutcome, ageOutcome};
+ghost use Rattle.rules.specs.Calls.{hostLent, exported, readOutcome, updateOutcome, fillOutcome, ageOutcome, exportedFresh, exportedSum};
 use records::get_u64;
 use records::put_u64;
 use rules::Answer;
+use rules::Completion;
 use rules::Gauge;
+use rules::Levels;
+use rules::WRONG_SIZES;
 
 // The size of a host's gauge, in bytes.
 pub const GAUGE_SIZE: usize = 16;
 // Where its ceiling lies, after the total.
 const CEILING_AT: usize = 8;
+// The size of a number, in bytes.
+const NUMBER_SIZE: usize = 8;
+// What a host is told for done.
+const DONE: u64 = 0;
 
 fn gauge_at(bytes: &[u8]) -> Gauge
     requires { ⌜ length (now bytes) ≡ gaugeSize ⌝ }
@@ -51,6 +58,30 @@ fn number_of(a: Answer) -> u64
     }
 }
 
+// The number of a completion.
+fn completion_number(c: Completion) -> u64
+    ensures { λ n. ⌜ n ≡ completionNumber c ⌝ }
+{
+    match c {
+        Completion::Done => DONE,
+        Completion::Refused(n) => n,
+    }
+}
+
+// Starts a table: every record free, the gauge zero. The lines keep their bytes.
+#[no_mangle]
+pub extern "C" fn cot_fresh(table: &mut [u8], gauge: &mut [u8], lines: &[u8]) -> u64
+    ensures { λ n. ⌜ outcome n (hostLent (now (table .exit)) (now (gauge .exit)) (now (lines .entry))) ≡ exportedFresh (hostLent (now (table .entry)) (now (gauge .entry)) (now (lines .entry))) ⌝ }
+{
+    if gauge.len() != GAUGE_SIZE {
+        return WRONG_SIZES;
+    }
+    let started = cache::fresh(table, gauge_at(gauge), lines);
+    put_gauge(gauge, started.gauge);
+    let answer = started.answer;
+    completion_number(answer)
+}
+
 // Counts weight pieces of a class, and answers where its picture is.
 #[no_mangle]
 pub extern "C" fn cot_read(
@@ -63,7 +94,7 @@ pub extern "C" fn cot_read(
     ensures { λ n. ⌜ outcome n (hostLent (now (table .exit)) (now (gauge .exit)) (now (lines .entry))) ≡ exported (λ m. readOutcome m key weight) (hostLent (now (table .entry)) (now (gauge .entry)) (now (lines .entry))) ⌝ }
 {
     if gauge.len() != GAUGE_SIZE {
-        return 1;
+        return WRONG_SIZES;
     }
     let reply = cache::read(table, gauge_at(gauge), lines, key, weight);
     put_gauge(gauge, reply.gauge);
@@ -83,7 +114,7 @@ pub extern "C" fn cot_update(
     ensures { λ n. ⌜ outcome n (hostLent (now (table .exit)) (now (gauge .exit)) (now (lines .entry))) ≡ exported (λ m. updateOutcome m key weight) (hostLent (now (table .entry)) (now (gauge .entry)) (now (lines .entry))) ⌝ }
 {
     if gauge.len() != GAUGE_SIZE {
-        return 1;
+        return WRONG_SIZES;
     }
     let updated = cache::update(table, gauge_at(gauge), lines, key, weight);
     put_gauge(gauge, updated.gauge);
@@ -103,7 +134,7 @@ pub extern "C" fn cot_fill(
     ensures { λ n. ⌜ outcome n (hostLent (now (table .exit)) (now (gauge .entry)) (now (lines .exit))) ≡ exported (λ m. fillOutcome m key (now (picture .entry))) (hostLent (now (table .entry)) (now (gauge .entry)) (now (lines .entry))) ⌝ }
 {
     if gauge.len() != GAUGE_SIZE {
-        return 1;
+        return WRONG_SIZES;
     }
     number_of(cache::fill(table, gauge_at(gauge), lines, key, picture))
 }
@@ -114,10 +145,31 @@ pub extern "C" fn cot_age(table: &mut [u8], gauge: &mut [u8], lines: &[u8]) -> u
     ensures { λ n. ⌜ outcome n (hostLent (now (table .exit)) (now (gauge .exit)) (now (lines .entry))) ≡ exported ageOutcome (hostLent (now (table .entry)) (now (gauge .entry)) (now (lines .entry))) ⌝ }
 {
     if gauge.len() != GAUGE_SIZE {
-        return 1;
+        return WRONG_SIZES;
     }
     let aged = cache::age(table, gauge_at(gauge), lines);
     put_gauge(gauge, aged.gauge);
     let answer = aged.answer;
     number_of(answer)
+}
+
+// Puts the sum, over all records, of the larger of heat and ceiling into 8 lent bytes.
+#[no_mangle]
+pub extern "C" fn cot_levelled_sum(table: &[u8], gauge: &[u8], lines: &[u8], sum: &mut [u8]) -> u64
+    ensures { λ n. ⌜ outcome n (now (sum .exit)) ≡ exportedSum (hostLent (now (table .entry)) (now (gauge .entry)) (now (lines .entry))) (now (sum .entry)) ⌝ }
+{
+    if gauge.len() != GAUGE_SIZE {
+        return WRONG_SIZES;
+    }
+    if sum.len() != NUMBER_SIZE {
+        return WRONG_SIZES;
+    }
+    let levels = cache::levelled_sum(table, gauge_at(gauge), lines);
+    match levels {
+        Levels::Refused(n) => n,
+        Levels::Sum(s) => {
+            put_u64(sum, 0, s);
+            DONE
+        }
+    }
 }

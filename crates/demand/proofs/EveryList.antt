@@ -13,7 +13,7 @@ use Rattle.rules.specs.Pass.{if_then_else_}
 use Rattle.rules.specs.Table.{Memory, isTracked, isUnlined, isLined, places, size, lineTotal}
 use Rattle.rules.specs.Answers.{isRefused}
 use Rattle.rules.specs.Steps.{outcome, level, levelledSum, ageSteps, readSteps, updateSteps, fillSteps}
-use Rattle.rules.specs.Calls.{OfSizes, HostMemory, hostLent, held, hosted, stored, gaugeTest, sizesTest, orderTest, orderGood, verdict, unless, plainVerdict, readVerdict, updateVerdict, fillVerdict, ageOutcome, readOutcome, updateOutcome, fillOutcome, freshOutcome}
+use Rattle.rules.specs.Calls.{OfSizes, HostMemory, hostLent, held, hosted, stored, gaugeTest, sizesTest, orderTest, orderGood, verdict, unless, plainVerdict, readVerdict, updateVerdict, fillVerdict, ageOutcome, readOutcome, updateOutcome, fillOutcome, freshOutcome, exportedFresh}
 use Rattle.rules.specs.Replay.{Truth, unheard}
 use Rattle.rules.proofs.Places.{gauge-same}
 use Rattle.rules.proofs.Searches.{sum-least}
@@ -24,6 +24,7 @@ use Rattle.rules.proofs.Invariant.{Holds}
 use Rattle.rules.proofs.Verdicts.{first-passes, read-accepted, fill-accepted, accepted-verdict}
 use Rattle.rules.proofs.FreshHolds.{fresh-holds, size-of, fresh-accepts, zeroed-is-fresh}
 use Rattle.rules.proofs.Refusals.{hosted-leaves}
+use Rattle.rules.proofs.HostCalls.{host-starts}
 use Rattle.rules.proofs.CallsHold.{age-holds}
 use Rattle.rules.proofs.ReadHolds.{read-holds}
 use Rattle.rules.proofs.UpdateHolds.{update-holds}
@@ -107,6 +108,13 @@ module _ (Claim : Memory → Truth → Type 0) (claim : AfterEveryList Claim) (m
   pub from-zeroed : Follows (held (hostLent (replicate (recordSize * k) 0) (replicate gaugeSize 0) (m .lines))) hs end →
       Claim end (replay (unheard k) hs)
   from-zeroed follows = of-every-size (rw (zeroed-is-fresh m k c sized) at follows)
+
+-- ---- from what an exported fresh leaves, where it told the host 0
+pub from-host-fresh : (Claim : Memory → Truth → Type 0) → AfterEveryList Claim → (h : HostMemory) (end : Memory) (hs : List Heard) →
+    exportedFresh h .answer ≡ 0 → Follows (held (exportedFresh h .after)) hs end → Claim end (replay (unheard (size (held h))) hs)
+from-host-fresh Claim claim h end hs told follows =
+    let starts = host-starts h told in
+    claim (held h) end hs (starts .0) (rw (starts .1) at follows)
 
 -- ---- what it says
 levels-most : (m : Memory) (t : Truth) → Holds m t → levelledSum m ≤ m .gauge .total

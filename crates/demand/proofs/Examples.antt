@@ -12,8 +12,8 @@ use Rattle.rules.specs.declared.Record.{Record}
 use Rattle.rules.specs.Pass.{if_then_else_}
 use Rattle.rules.specs.declared.Found.the-variants.{Nowhere}
 use Rattle.rules.specs.Table.{Memory, keyRecord, places, size, lineTotal}
-use Rattle.rules.specs.Answers.{isRefused}
-use Rattle.rules.specs.Calls.{readOutcome, freshOutcome, HostMemory, hostLent, held, hosted, exported}
+use Rattle.rules.specs.Answers.{isRefused, completionNumber}
+use Rattle.rules.specs.Calls.{readOutcome, freshOutcome, HostMemory, hostLent, held, hosted, exported, exportedFresh}
 use Rattle.rules.specs.Numbers.{TellsLine}
 use Rattle.rules.specs.Replay.{Truth, unheard, at}
 use Rattle.rules.specs.Sample.{numbers, threeRecords, samplePicture, hostStart}
@@ -24,7 +24,7 @@ use Rattle.demand.specs.List.{Call, read, update, fill, callOutcome, key
 use Rattle.demand.specs.Demand3.{Demand3, LevelledBound, StaysInOrder, HeavyHittersTracked}
 use Rattle.demand.specs.Sample.{sampleCalls}
 use Rattle.demand.proofs.Computing.{computing}
-use Rattle.demand.proofs.EveryList.{demand3}
+use Rattle.demand.proofs.EveryList.{demand3, from-host-fresh}
 
 -- ---- one clause missed
 -- class 7 and class 8 tracked, with one line and one free record; the rest of what the examples share
@@ -168,6 +168,12 @@ wide-list =
 pub wide-demand3 : Demand3 wide-end (replay (unheard 3) wide-heard)
 unfolding computing
 wide-demand3 = demand3 (dirty 2) wide-end wide-heard refl wide-list
+
+-- the same from what an exported fresh leaves of a host's bytes that are not clear
+pub wide-host-demand3 : Demand3 wide-end (replay (unheard 3) wide-heard)
+unfolding computing exportedFresh completionNumber
+wide-host-demand3 =
+    from-host-fresh Demand3 demand3 (hostLent (dirty 2 .table) (replicate 16 255) (dirty 2 .lines)) wide-end wide-heard refl wide-list
 
 -- ---- the sample, as a host is told of it
 abbrev told : List Heard → HostMemory → List ℕ

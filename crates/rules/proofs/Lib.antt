@@ -25,6 +25,7 @@ pub mod Verdicts
 pub mod FreshHolds
 pub mod Refusals
 pub mod Numbers
+pub mod HostCalls
 pub mod Answered
 pub mod Edges
 pub mod Examples

@@ -7,14 +7,14 @@ use mathlib.Core.Logic.{_⊎_, inl, inr, ⊎-elim, _≢_}
 use native.Mathlib.Nat.{add-zero, add-assoc}
 use native.Mathlib.Decide.{decLt, ℕ-discrete}
 use native.Mathlib.Omega.{arith}
-use lib.ListN.{length, getD, take, drop, replicate, length-append, length-drop, take-append-drop}
+use lib.ListN.{length, getD, take, drop, replicate, length-append, length-drop, take-append-drop, drop-of-length-le}
 use lib.Dec.{lit<}
 use lib.Seq.{getD-drop, take-at, drop-at, length-take-le, take-append-le, drop-append-le, drop-append-add, drop-drop}
 use Rattle.rules.specs.declared.Record.{Record}
 use Rattle.rules.specs.declared.Gauge.{Gauge}
 use Rattle.rules.specs.Bytes.{get64, put64, recordSize, heatPlace, slackPlace, statePlace, ceilingPlace, recordAt, putRecord, recordCount, lineSize, lineAt, putLine, lineCount, gaugeSize, gaugeAt, putGauge}
-use Rattle.rules.specs.Table.{changeAll}
-use Rattle.rules.proofs.Words.{IsBytes, length-put64, get-put64-same, get-put64-other, put64-bytes, get64-below, put-get64}
+use Rattle.rules.specs.Table.{changeAll, freshGauge}
+use Rattle.rules.proofs.Words.{IsBytes, bytes8, put64-over, length-put64, get-put64-same, get-put64-other, put64-bytes, get64-below, put-get64}
 
 -- four 64-bit numbers
 pub record IsRecord (r : Record) : Type 0 where
@@ -203,10 +203,6 @@ pub record IsGauge (g : Gauge) : Type 0 where
   pub total : g .total < 2 ^ 64
   pub ceiling : g .ceiling < 2 ^ 64
 
-pub length-putGauge : (b : List ℕ) (g : Gauge) → length (putGauge b g) ≡ length b
-unfolding putGauge
-length-putGauge b g = simp length-put64
-
 pub gauge-same : (b : List ℕ) (g : Gauge) → length b ≡ gaugeSize → IsGauge g → gaugeAt (putGauge b g) ≡ g
 unfolding gaugeAt putGauge
 gauge-same b g e fits =
@@ -215,6 +211,15 @@ gauge-same b g e fits =
       get-put64-same b 0 (g .total) (omega arith) (fits .total),
       get-put64-same (put64 b 0 (g .total)) ceilingPlace (g .ceiling) (simp length-put64 (omega arith)) (fits .ceiling),
     )
+
+-- put as zero, it is zero in every byte
+pub gauge-zeroed : (b : List ℕ) → length b ≡ gaugeSize → putGauge b freshGauge ≡ replicate gaugeSize 0
+unfolding putGauge freshGauge bytes8
+gauge-zeroed b e =
+    let half = put64 b 0 0 in
+    let whole : length half ≡ gaugeSize = length-put64 b 0 0 ∙ e in
+    let front : take ceilingPlace half ≡ bytes8 0 = rw (put64-over b 0 0 (omega arith)) (take-at (bytes8 0) (drop 8 b) ceilingPlace refl) in
+    rw (put64-over half ceilingPlace 0 (omega arith), front, drop-of-length-le half {i = ceilingPlace + 8} (omega arith)) refl
 
 pub gauge-kept : (b : List ℕ) → IsBytes b → putGauge b (gaugeAt b) ≡ b
 unfolding gaugeAt putGauge

@@ -3,13 +3,13 @@
 -- Assumes nothing.
 use Prim.Native.Nat.{ℕ, zero, suc, _+_, _*_, _/_, _%_, _≤_, _<_, _^_}
 use mathlib.Core.Path.{_≡_, refl, sym, _∙_, ap}
-use mathlib.Core.List.{List, [], _∷_}
+use mathlib.Core.List.{List, [], _∷_, _++_, append-assoc}
 use mathlib.Core.Logic.{_⊎_, inl, inr, ⊎-elim}
 use native.Mathlib.Nat.{mod-lt, mod-add-div, div-div-eq-div-mul, div-eq-of-lt, div-lt-iff-lt-mul, add-zero, zero-add, add-mul-div-left, add-mul-mod-self-left, mod-eq-of-lt, div-one}
 use native.Mathlib.Numerals.{towards-suc}
 use native.Mathlib.Omega.{arith}
-use lib.ListN.{length, getD, set, length-set}
-use lib.Seq.{sets, length-sets, getD-set-same, getD-set-other, set-getD}
+use lib.ListN.{length, getD, take, drop, set, length-set}
+use lib.Seq.{sets, length-sets, sets-eq, getD-set-same, getD-set-other, set-getD}
 use lib.Dec.{lit<}
 use Rattle.rules.specs.Bytes.{get64, put64}
 
@@ -37,7 +37,7 @@ stores-in (v ∷ vs) l i (suc k) h below =
     rw e (stores-in vs (set l i v) (suc i) k (simp length-set (omega arith)) (omega arith))
 
 -- ---- digits
-bytes8 : ℕ → List ℕ
+unfoldable pub bytes8 : ℕ → List ℕ
 bytes8 n =
     n % 256
     ∷ n / 256 % 256
@@ -93,6 +93,10 @@ bytes8-sum n h =
 -- ---- the laws
 pub length-put64 : (l : List ℕ) (at n : ℕ) → length (put64 l at n) ≡ length l
 length-put64 l at n = rw put-stores (length-sets l at (bytes8 n))
+
+-- eight bytes are written over
+pub put64-over : (l : List ℕ) (at n : ℕ) → at + 8 ≤ length l → put64 l at n ≡ take at l ++ (bytes8 n ++ drop (at + 8) l)
+put64-over l at n room = rw (put-stores, ← bytes8-length n) (sets-eq (bytes8 n) l at (rw (bytes8-length n) room) ∙ append-assoc (take at l) (bytes8 n) _)
 
 pub put64-other : (l : List ℕ) (at n j : ℕ) → (j < at) ⊎ (at + 8 ≤ j) → getD (put64 l at n) j 0 ≡ getD l j 0
 put64-other l at n j (inl h) = rw put-stores (stores-below (bytes8 n) l at j h)

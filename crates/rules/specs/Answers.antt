@@ -84,6 +84,14 @@ unfoldable pub completionSaid : Completion → Said
 completionSaid Completion.Done = said none []
 completionSaid (Completion.Refused n) = said (some n) []
 
+-- A C host is told done by a number of its own, which is no refusal's.
+abbrev pub doneNumber : ℕ
+doneNumber = 0
+
+unfoldable pub completionNumber : Completion → ℕ
+completionNumber Completion.Done = doneNumber
+completionNumber (Completion.Refused n) = n
+
 unfoldable pub levelsSaid : Levels → Said
 levelsSaid (Levels.Sum sum) = said none (sum ∷ [])
 levelsSaid (Levels.Refused n) = said (some n) []

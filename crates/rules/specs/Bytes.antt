@@ -35,6 +35,10 @@ put64 bytes at n =
     (at + 6) (n / 281474976710656 % 256))
     (at + 7) (n / 72057594037927936 % 256)
 
+-- | a number in 8 bytes in the same byte order
+abbrev pub numberSize : ℕ
+numberSize = 8
+
 -- ---- the table
 -- | The table is lent bytes: K records of 32 bytes, no header
 abbrev pub recordSize : ℕ

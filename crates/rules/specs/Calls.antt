@@ -15,10 +15,10 @@ use Rattle.rules.specs.declared.Answer.{Answer}
 use Rattle.rules.specs.declared.Answer.the-variants.{Refused}
 use Rattle.rules.specs.declared.Completion.{Completion}
 use Rattle.rules.specs.declared.Levels.{Levels}
-use Rattle.rules.specs.Bytes.{recordSize, recordCount, lineSize, lineCount, gaugeSize, gaugeAt, putGauge}
+use Rattle.rules.specs.Bytes.{numberSize, put64, recordSize, recordCount, lineSize, lineCount, gaugeSize, gaugeAt, putGauge}
 use Rattle.rules.specs.Pass.{if_then_else_}
 use Rattle.rules.specs.Table.{Memory, inOrder, lookup, places, size, lineTotal, freshMemory}
-use Rattle.rules.specs.Answers.{numberOf, wrongSizes, wrongWeight, notInOrder, wrongPicture}
+use Rattle.rules.specs.Answers.{numberOf, doneNumber, completionNumber, wrongSizes, wrongWeight, notInOrder, wrongPicture}
 use Rattle.rules.specs.Steps.{Outcome, outcome, ageSteps, readSteps, updateSteps, fillSteps, shownLine, levelledSum}
 
 -- ---- the tests
@@ -169,3 +169,23 @@ hosted call h =
 -- | An exported read, update, fill or aging returns one number
 unfoldable pub exported : (Memory → Outcome Answer Memory) → HostMemory → Outcome ℕ HostMemory
 exported call h = outcome (numberOf (hosted call h .answer)) (hosted call h .after)
+
+-- ---- fresh and the levelled sum by a C host
+-- | Fresh, .. answers done. (The number that a host is told for it: Answers.antt.)
+unfoldable pub exportedFresh : HostMemory → Outcome ℕ HostMemory
+exportedFresh h =
+    unless (verdict (gaugeTest h ∷ [])) (λ n. outcome n h)
+    (outcome (completionNumber (freshOutcome (held h) .answer)) (stored h (freshOutcome (held h) .after)))
+
+-- | a number in 8 bytes .. A length that isn't whole is refused as a wrong count.
+unfoldable pub sumTest : List ℕ → Test
+sumTest sum = must (eqb (length sum) numberSize) wrongSizes
+
+unfoldable pub putLevels : List ℕ → Levels → Outcome ℕ (List ℕ)
+putLevels sum (Levels.Sum n) = outcome doneNumber (put64 sum 0 n)
+putLevels sum (Levels.Refused n) = outcome n sum
+
+-- the number that the host is told, and what becomes of the bytes that it lent for the sum
+unfoldable pub exportedSum : HostMemory → List ℕ → Outcome ℕ (List ℕ)
+exportedSum h sum =
+    unless (verdict (gaugeTest h ∷ sumTest sum ∷ [])) (λ n. outcome n sum) (putLevels sum (levelledOutcome (held h)))
