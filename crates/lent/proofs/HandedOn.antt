@@ -97,10 +97,10 @@ abbrev stayed₀ : Stays (thin₀.ended .signature .params) (thin₀.ended .kept
 stayed₀ = (gave-slice (0 ∷ []) tt (plain (λ _. u8)), (stay-ref (1 ∷ []) tt (plain (λ _. G.the-row)), (stay-none-slice (2 ∷ []) tt (plain (λ _. u8)) yes, tt)))
 
 -- ---- machine values, and what a reply's says of its fields
-abbrev sliceOf : RefT (List ℕ) → Val
+abbrev pub sliceOf : RefT (List ℕ) → Val
 sliceOf x = sliceVal (x .ptr) (length (x .now))
 
-abbrev gaugeVal : Gauge → Val
+abbrev pub gaugeVal : Gauge → Val
 gaugeVal = LL.val G.the-type G′.the-laws
 
 abbrev answerVal : Answer → Val
@@ -110,11 +110,11 @@ abbrev parts : (r : Reply) (v : Val) → Is R.the-row r (v ∷ []) → AreAll (f
 parts r v = LL.owed R.the-type R′.the-laws r (v ∷ [])
 
 -- ---- n parameters of which the callee says no last value
-abbrev Unsaid : ℕ → Type 0
+abbrev pub Unsaid : ℕ → Type 0
 Unsaid zero = Unit {0}
 Unsaid (suc n) = Unit {0} × Unsaid n
 
-abbrev unsaid : ℕ → Fml
+abbrev pub unsaid : ℕ → Fml
 unsaid zero = ftrue
 unsaid (suc n) = fsep ftrue (unsaid n)
 
@@ -123,7 +123,7 @@ module _ {M : Type 1} {𝓤 : URA M} {H : Heap 𝓤} {A : Atoms 𝓤} {K : Type 
   held : K → (n : ℕ) {i : ℕ} {v : Val} → nth 𝓤 H A n Γ ≡ ‵ (fat fullShare (spotOf 𝓤 H E i .0) (spotOf 𝓤 H E i .1) zero v) → Opd K W Γ E (copy (place i [])) v
   held k n e = load k (from k (stop k)) (look k n e)
 
-  freed : K → {τ : Ty} {b : ℕ} {v : Val} {G : Goal 𝓤 H} → Step K W Γ (frees E G) (‵ (fat fullShare τ b zero v) ∷ ‵ (fdies τ b) ∷ Γ) (frees ((τ, b) ∷ E) G)
+  pub freed : K → {τ : Ty} {b : ℕ} {v : Val} {G : Goal 𝓤 H} → Step K W Γ (frees E G) (‵ (fat fullShare τ b zero v) ∷ ‵ (fdies τ b) ∷ Γ) (frees ((τ, b) ∷ E) G)
   freed k = step (λ s. forget k 0 refl $ free1 k $ s)
 
 module _ {M : Type 1} (𝓤 : URA M) (H : Heap 𝓤) (A : Atoms 𝓤) (W : Given 𝓤 H A) (κ₁ κ₂ κ₃ : Lft) (q₁ q₂ q₃ : Share) (t : RefT (List ℕ)) (g : RefT Gauge) (l : RefT (List ℕ)) where
