@@ -151,11 +151,12 @@ fn fill_steps(table: &mut [u8], gauge: Gauge, lines: &mut [u8], key: u64, pictur
     ensures { λ a. ⌜ outcome a (lent (now (table .exit)) gauge (now (lines .exit))) ≡ fillSteps (lent (now (table .entry)) gauge (now (lines .entry))) key (now (picture .entry)) ⌝ }
     ensures { λ a. ⌜ numberOf a < 2 ^ 64 ⌝ }
 {
+    let found = lookup(table, key);
     let Lookup::Lined {
         place,
         line,
         filled: is_full,
-    } = lookup(table, key)
+    } = found
     else {
         return Answer::Refused(NO_LINE);
     };

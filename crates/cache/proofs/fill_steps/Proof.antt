@@ -30,22 +30,22 @@ line-put lines n picture whole =
     let all : length (drop start lines) ≤ rest = simp length-drop (omega arith) in
     rw (take-all rest (drop start lines) all, drop-of-length-le (drop start lines) all, append-nil, whole)
 
-abbrev entry : tie.After-place → tie.Start
+abbrev entry : tie.After-found → tie.Start
 entry c = c .before .before .before .before .before .before .before
 
 -- the line that was looked up
-on-line : (c : tie.After-place) →
+on-line : (c : tie.After-found) →
     let args = entry c .args in
-    IsOn (lent (args .table .now) (args .gauge) (args .lines .now)) (c .place .given .0 .0) (c .place .given .0 .1 .0)
+    IsOn (lent (args .table .now) (args .gauge) (args .lines .now)) (c .found .given .0 .0) (c .found .given .0 .1 .0)
 unfolding places size
 on-line c =
-    lined-at _ (entry c .args .key) _ _ _ (entry c .pre .1) (sym (c .before .before .lookup .ensures .0) ∙ c .place .given .1)
+    lined-at _ (entry c .args .key) _ _ _ (entry c .pre .1) (sym (c .before .before .lookup .ensures .0) ∙ c .found .given .1)
 
 lookup-requires : tie.Need-lookup-requires
 lookup-requires c κs = search needs
 
-enum-known-place : tie.Need-enum-known-place
-enum-known-place c = search needs
+enum-known-found : tie.Need-enum-known-found
+enum-known-found c = search needs
 
 same-length : tie.Need-same-length
 same-length c = search needs
@@ -67,7 +67,7 @@ returns-2 : tie.Need-returns-2
 unfolding fillSteps store places size numberOf
 returns-2 c =
     let at = c .before .before in
-    (rw (← at .before .before .lookup .ensures .0, at .place .given .1, c .if1 .taken), lit< tt)
+    (rw (← at .before .before .lookup .ensures .0, at .found .given .1, c .if1 .taken), lit< tt)
 
 mul-copy-picture : tie.Need-mul-copy-picture
 mul-copy-picture c = let h = on-line (c .before .before) in omega arith
@@ -116,13 +116,13 @@ returns-3 c =
     let args = entry at .args in (
       rw (
         ← at .before .before .lookup .ensures .0,
-        at .place .given .1,
+        at .found .given .1,
         empty .if1 .left,
         put .put-record .ensures,
         made .filled .ensures,
         read .record-at .ensures,
         copied .copy-picture .ensures,
-        line-put (args .lines .now) (at .place .given .0 .1 .0) (args .picture .now) (entry at .pre .0),
+        line-put (args .lines .now) (at .found .given .0 .1 .0) (args .picture .now) (entry at .pre .0),
       ),
       lit< tt,
     )
@@ -132,7 +132,7 @@ fill-steps-spec =
     tie.close
     (tie.spec
     lookup-requires
-    enum-known-place
+    enum-known-found
     same-length
     returns
     same-length-2

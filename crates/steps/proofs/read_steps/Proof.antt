@@ -48,7 +48,7 @@ unfolding places size withGauge
 read-counted-requires c κs =
     let made = c .before .before .before .before in
     let (total, heats, lines) = roomy made in
-    (made .before .before .before .before .pre .1, record { ceiling = heats .ceiling; heat = heats .heat }, lines-gauge _ _ lines)
+    (made .before .before .before .before .pre .1, record { ceiling = omega (arith, heats .ceiling); heat = heats .heat }, lines-gauge _ _ lines)
 
 same-length : tie.Need-same-length
 same-length c = search needs
