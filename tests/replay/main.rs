@@ -1,5 +1,6 @@
 //! Runs the program `replay` on journals made here, and compares everything that it prints with what
-//! document 01's rules say (the model of tests/compare). Argument: the program's path.
+//! document 01's rules say (the model of tests/compare). Every run has a time limit. Argument: the
+//! program's path. Stops at the first failure.
 
 #[allow(dead_code)]
 #[path = "../compare/model.rs"]
@@ -10,11 +11,16 @@ mod random;
 
 use model::{Answer, Call, Model};
 use random::Random;
-use std::io::{Read, Write};
-use std::process::{Command, Stdio};
+use std::io::{self, Read, Write};
+use std::process::{exit, ChildStdin, ChildStdout, Command, ExitStatus, Stdio};
+use std::sync::{mpsc, Arc};
+use std::thread;
+use std::time::{Duration, Instant};
 
 /// "Records of 80 bytes, no header."
 const ENTRY_BYTES: usize = 80;
+/// A run that takes longer is ended, and has failed.
+const LIMIT: Duration = Duration::from_secs(60);
 
 /// A record of the journal, as document 01's section on the journal lays it out.
 fn entry(kind: u8, key: u64, weight: u64, picture: &[u8; 64]) -> Vec<u8> {
@@ -52,6 +58,7 @@ fn call_of(record: &[u8]) -> Option<Call> {
 fn word(answer: Answer) -> String {
     match answer {
         Answer::Refused(number) => format!("refused-{number}"),
+        Answer::Done => "done".into(),
         Answer::Aged => "aged".into(),
         Answer::Changed => "changed".into(),
         Answer::Unknown => "unknown".into(),
@@ -64,7 +71,7 @@ fn word(answer: Answer) -> String {
 
 /// What the program must print: it "starts fresh with K = 3, C = 1".
 fn expected(journal: &[u8]) -> String {
-    let (mut table, mut gauge, mut lines) = ([0; 96], [0; 16], [0; 64]);
+    let (mut table, mut gauge, mut lines) = (vec![0; 96], vec![0; 16], vec![0; 64]);
     let mut text = String::new();
     for (i, record) in journal.chunks(ENTRY_BYTES).enumerate() {
         let answer = if record.len() < ENTRY_BYTES {
@@ -73,7 +80,8 @@ fn expected(journal: &[u8]) -> String {
             match call_of(record) {
                 None => Answer::Refused(7),
                 Some(call) => {
-                    Model::default().call(&mut table, &mut gauge, &mut lines, &call, &mut Vec::new())
+                    let lent = [&mut table[..], &mut gauge, &mut lines, &mut []];
+                    Model::default().call(lent, &call, &mut Vec::new())
                 }
             }
         };
@@ -83,34 +91,156 @@ fn expected(journal: &[u8]) -> String {
     text
 }
 
-/// What the program prints, fed through a pipe in pieces of the given sizes, in turn.
-fn printed(program: &str, journal: &[u8], sizes: &[usize]) -> String {
-    let mut child = Command::new(program)
+/// What a run came to.
+struct Run {
+    status: ExitStatus,
+    fed: io::Result<()>,
+    taken: Vec<u8>,
+}
+
+/// Runs the program. It is fed, and its output taken, by threads of their own: neither pipe can then
+/// hold up the other, or the time limit.
+fn run(
+    mut program: Command,
+    feed: impl FnOnce(ChildStdin) -> io::Result<()> + Send + 'static,
+    take: impl FnOnce(ChildStdout) -> Vec<u8> + Send + 'static,
+) -> Result<Run, String> {
+    let end = Instant::now() + LIMIT;
+    let late = |what: &str| format!("{what} within {} s", LIMIT.as_secs());
+    let mut child = program
         .stdin(Stdio::piped())
         .stdout(Stdio::piped())
         .spawn()
-        .expect("the program starts");
-    let mut input = child.stdin.take().expect("a pipe to the program");
-    let mut output = child.stdout.take().expect("a pipe from the program");
-    let reader = std::thread::spawn(move || {
-        let mut text = String::new();
-        output.read_to_string(&mut text).expect("text");
-        text
-    });
-    let mut rest = journal;
-    for size in sizes.iter().cycle() {
-        if rest.is_empty() {
-            break;
+        .map_err(|error| format!("the program does not start: {error}"))?;
+    let input = child.stdin.take().expect("a pipe to the program");
+    let output = child.stdout.take().expect("a pipe from the program");
+    let (feeds, fed) = mpsc::channel();
+    let (takes, taken) = mpsc::channel();
+    thread::spawn(move || feeds.send(feed(input)));
+    thread::spawn(move || takes.send(take(output)));
+
+    let status = loop {
+        if let Some(status) = child.try_wait().expect("the state of the program") {
+            break status;
         }
-        let (piece, after) = rest.split_at((*size).min(rest.len()));
-        input.write_all(piece).expect("the program reads on");
-        input.flush().expect("the program reads on");
-        rest = after;
+        if Instant::now() >= end {
+            child.kill().expect("the program can be ended");
+            child.wait().expect("the program has ended");
+            return Err(late("killed: the program did not end by itself"));
+        }
+        thread::sleep(Duration::from_millis(2));
+    };
+    let left = || end.saturating_duration_since(Instant::now());
+    Ok(Run {
+        status,
+        fed: fed
+            .recv_timeout(left())
+            .map_err(|_| late("the program's input was not closed"))?,
+        taken: taken
+            .recv_timeout(left())
+            .map_err(|_| late("the program's output was not closed"))?,
+    })
+}
+
+/// A journal and how it is fed and judged.
+struct Case {
+    name: &'static str,
+    journal: Arc<[u8]>,
+    /// The sizes of the pieces that are written into the pipe, in turn.
+    pieces: &'static [usize],
+    /// What the first rows must be, letter by letter.
+    begins: &'static str,
+    /// Whether a total must be smaller than the one in the row before.
+    ages: bool,
+}
+
+/// A case that is written in one piece.
+fn case(name: &'static str, journal: Vec<u8>) -> Case {
+    Case {
+        name,
+        journal: journal.into(),
+        pieces: &[1 << 30],
+        begins: "",
+        ages: false,
     }
-    drop(input);
-    let text = reader.join().expect("the reader ends");
-    child.wait().expect("the program ends");
-    text
+}
+
+/// Runs the program on the journal. Gives the number of rows, all as they should be.
+fn check(program: &str, case: &Case) -> Result<usize, String> {
+    let (journal, pieces) = (case.journal.clone(), case.pieces);
+    let feed = move |mut input: ChildStdin| {
+        let mut rest = &journal[..];
+        for size in pieces.iter().cycle() {
+            if rest.is_empty() {
+                break;
+            }
+            let (piece, after) = rest.split_at((*size).min(rest.len()));
+            input.write_all(piece)?;
+            input.flush()?;
+            rest = after;
+        }
+        Ok(())
+    };
+    let take = |mut output: ChildStdout| {
+        let mut text = Vec::new();
+        output.read_to_end(&mut text).expect("what is printed");
+        text
+    };
+    let run = run(Command::new(program), feed, take)?;
+
+    let should = expected(&case.journal);
+    let does = String::from_utf8_lossy(&run.taken);
+    let rows = should.lines().count();
+    if should != does {
+        let first = should.lines().zip(does.lines()).find(|(a, b)| a != b);
+        return Err(format!(
+            "{rows} rows are due and {} came, first difference {first:?}",
+            does.lines().count()
+        ));
+    }
+    if !does.starts_with(case.begins) {
+        return Err(format!("the rows do not begin with {:?}", case.begins));
+    }
+    if case.ages && !some_total_falls(&does) {
+        return Err("no total is smaller than the one before".into());
+    }
+    if let Err(error) = run.fed {
+        return Err(format!("the program did not read on: {error}"));
+    }
+    if !run.status.success() {
+        return Err(format!("the program ended with {}", run.status));
+    }
+    Ok(rows)
+}
+
+fn some_total_falls(rows: &str) -> bool {
+    let total = |row: &str| -> u64 {
+        let word = row.split(' ').nth(2).expect("a total");
+        word.parse().expect("a number")
+    };
+    let totals: Vec<u64> = rows.lines().map(total).collect();
+    totals.windows(2).any(|pair| pair[1] < pair[0])
+}
+
+/// The journal is fed again and again, and nobody takes the output after its first bytes. What the
+/// program could still print is lost, so it must end by itself, by a signal or not. Gives how.
+fn output_closed(program: Command, journal: Arc<[u8]>) -> Result<ExitStatus, String> {
+    let due = expected(&journal).into_bytes()[..1_000].to_vec();
+    let feed = move |mut input: ChildStdin| loop {
+        // Fails when the program is no longer there to read.
+        input.write_all(&journal)?;
+    };
+    let take = |output: ChildStdout| {
+        let mut some = Vec::new();
+        let mut first = output.take(1_000);
+        first.read_to_end(&mut some).expect("what is printed");
+        some
+    };
+    let run = run(program, feed, take)?;
+    if run.taken != due {
+        return Err("the first rows are other ones".into());
+    }
+    Ok(run.status)
 }
 
 /// A mixed journal: calls of few keys, and records of unknown form among them.
@@ -136,14 +266,19 @@ fn mixed(random: &mut Random, records: usize) -> Vec<u8> {
     journal
 }
 
-fn main() {
-    let program = std::env::args().nth(1).expect("the program's path");
-    let whole = [1 << 20];
-    let mut random = Random::new(1, 0, 0);
-
-    // Each unknown form of document 01's section, among good records.
+/// Each unknown form of document 01's section, among good records.
+fn unknown_forms() -> Vec<u8> {
     let mut forms = read(5, 3);
-    for (place, byte) in [(0, 0), (0, 5), (0, 255), (1, 1), (4, 1), (7, 1), (16, 1), (79, 1)] {
+    for (place, byte) in [
+        (0, 0),
+        (0, 5),
+        (0, 255),
+        (1, 1),
+        (4, 1),
+        (7, 1),
+        (16, 1),
+        (79, 1),
+    ] {
         let mut record = read(5, 1);
         record[place] = byte;
         forms.extend(record);
@@ -157,39 +292,77 @@ fn main() {
     forms.extend(entry(3, 5, 0, &[9; 64]));
     forms.extend(read(5, 0));
     forms.extend(entry(2, 5, 0, &[0; 64]));
+    forms
+}
+
+fn cases() -> Vec<Case> {
+    let mut random = Random::new(1, 0, 0);
+
+    // Key 0 is a class like any other, and a free record is not its record.
+    let mut key_0 = entry(2, 0, 1, &[0; 64]);
+    key_0.extend(read(0, 2));
+    key_0.extend(entry(2, 0, 1, &[0; 64]));
 
     // 65,535 pieces a read: the total passes 4,294,967,295 after some 65,537 of them.
-    let mut long = Vec::new();
-    for i in 0..70_000_u64 {
-        long.extend(read(i % 5, 65_535));
-    }
+    let long: Vec<u8> = (0..70_000).flat_map(|i| read(i % 5, 65_535)).collect();
 
     let mut some = mixed(&mut random, 3_000);
     some.extend_from_slice(&[1, 2, 3]);
 
-    let cases: [(&str, Vec<u8>, &[usize]); 8] = [
-        ("empty", Vec::new(), &whole),
-        ("one byte", vec![1], &whole),
-        ("79 bytes", vec![0; 79], &whole),
-        ("80 zero bytes", vec![0; 80], &whole),
-        ("every unknown form", forms, &whole),
-        ("mixed, a short end", some.clone(), &whole),
-        ("mixed, in odd pieces", some, &[1, 79, 81, 7, 4_097, 65_521]),
-        ("long enough to age", long, &[65_520, 65_521, 3]),
-    ];
-    let mut failed = 0;
-    for (name, journal, sizes) in &cases {
-        let (should, does) = (expected(journal), printed(&program, journal, sizes));
-        if should == does {
-            println!("replay, {name}: {} rows as expected", should.lines().count());
-        } else {
-            failed += 1;
-            let row = should.lines().zip(does.lines()).find(|(a, b)| a != b);
-            println!("replay, {name}: FAILED: rows {} and {}, first difference {row:?}", should.lines().count(), does.lines().count());
+    vec![
+        case("empty", Vec::new()),
+        case("one byte", vec![1]),
+        Case {
+            begins: "1 refused-8 0 0\n",
+            ..case("79 bytes", vec![0; 79])
+        },
+        case("80 zero bytes", vec![0; 80]),
+        Case {
+            begins: "1 unknown 0 0\n",
+            ..case("an update of key 0 first", key_0)
+        },
+        case("every unknown form", unknown_forms()),
+        case("mixed, a short end", some.clone()),
+        Case {
+            pieces: &[1, 79, 81, 7, 4_097, 65_521],
+            ..case("mixed, in odd pieces", some)
+        },
+        Case {
+            pieces: &[65_520, 65_521, 3],
+            ages: true,
+            ..case("long enough to age", long)
+        },
+        Case {
+            pieces: &[4_000, 81, 1, 333, 12_347],
+            ..case("a million records", mixed(&mut random, 1_000_000))
+        },
+    ]
+}
+
+fn main() {
+    let program = std::env::args().nth(1).expect("the program's path");
+    let failed = |name: &str, text: String| -> ! {
+        println!("replay, {name}: FAILED: {text}");
+        exit(1);
+    };
+    for case in cases() {
+        match check(&program, &case) {
+            Ok(rows) => println!("replay, {}: {rows} rows as expected", case.name),
+            Err(text) => failed(case.name, text),
         }
     }
-    assert_eq!(expected(&cases[2].1), "1 refused-8 0 0\n");
-    let aged = expected(&cases[7].1);
-    assert!(aged.lines().count() == 70_000 && aged.lines().any(|row| row.ends_with(|c: char| c != '0')));
-    std::process::exit(i32::from(failed > 0));
+
+    // By the signal of a closed pipe, and where that is ignored, as in some hosts.
+    let mut ignoring = Command::new("sh");
+    ignoring.args(["-c", "trap '' PIPE; exec \"$0\"", &program]);
+    let journal: Arc<[u8]> = mixed(&mut Random::new(1, 0, 1), 10_000).into();
+    for (name, command) in [
+        ("output closed", Command::new(&program)),
+        ("output closed, its signal ignored", ignoring),
+    ] {
+        match output_closed(command, journal.clone()) {
+            Ok(status) => println!("replay, {name}: ended by itself, {status}"),
+            Err(text) => failed(name, text),
+        }
+    }
 }
