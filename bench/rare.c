@@ -1,5 +1,6 @@
 /* Times the calls that a host makes rarely beside the plain C version: fresh,
- * aging and the levelled sum, on a full table of K records with K / 4 lines.
+ * aging and the levelled sum, from a full table of K records with K / 4 lines,
+ * one call after another on the same memory.
  * Prints a Markdown table of nanoseconds a call; exit 1 where the two differ. */
 
 #include "clock.h"
