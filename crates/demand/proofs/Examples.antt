@@ -133,7 +133,7 @@ pub any-refused : {m end : Memory} {hs : List Heard} (c : Call) (l : Lent) → i
 any-refused c l e rest = elsewhere c l e rest
 
 -- Memory that is not clear, with two lines; a call that other memory refuses, for its sizes; a host's read of the largest key and
--- weight; a fill that the list's own memory refuses, one that it accepts, and an update.
+-- weight; a fill that the list's own memory refuses, one that it accepts, a host's look that finds it, and an update.
 abbrev dirty : ℕ → Memory
 dirty lines = threeRecords (numbers 1 2 3 9) (numbers 1 2 3 9) (numbers 1 2 3 9) 9 99 lines
 
@@ -149,11 +149,15 @@ wide-heard =
     ∷ heard (read largest 65535) false
     ∷ heard (fill 5 (samplePicture 1)) true
     ∷ heard (fill largest (samplePicture 1)) false
+    ∷ heard (read largest 0) false
     ∷ heard (update largest 65535) false
     ∷ []
 
+abbrev wide-filled : Memory
+wide-filled = callOutcome (fill largest (samplePicture 1)) (callOutcome (read largest 65535) cleared .after) .after
+
 abbrev wide-end : Memory
-wide-end = callOutcome (update largest 65535) (callOutcome (fill largest (samplePicture 1)) (callOutcome (read largest 65535) cleared .after) .after) .after
+wide-end = callOutcome (update largest 65535) wide-filled .after
 
 wide-list : Follows cleared wide-heard wide-end
 unfolding computing
@@ -162,8 +166,9 @@ wide-list =
     (own (read largest 65535) (host (hostLent (cleared .table) (replicate 16 0) (cleared .lines))) refl (omega arith)
     (own (fill 5 (samplePicture 1)) (rattle _) refl (omega arith)
     (own (fill largest (samplePicture 1)) (rattle _) refl (omega arith)
+    (own (read largest 0) (host (hostLent (wide-filled .table) (255 ∷ 255 ∷ replicate 14 0) (wide-filled .lines))) refl (omega arith)
     (own (update largest 65535) (rattle _) refl (omega arith)
-    nothing))))
+    nothing)))))
 
 pub wide-demand3 : Demand3 wide-end (replay (unheard 3) wide-heard)
 unfolding computing

@@ -11,7 +11,7 @@ use Rattle.rules.specs.Steps.{Outcome}
 use Rattle.rules.specs.Calls.{readOutcome}
 use Rattle.demand.specs.List.{read, rattle, own, nothing}
 use Rattle.rules.specs.Sample.{sampleLent, sampleStart, samplePicture}
-use Rattle.demand.specs.Idle.{MeetsRead, MeetsUpdate, MeetsFill, idleFill, idleUpdate, passingRead, echo, echoingSteps, echoingRead, emptySteps, emptyRead, refusingRead, inventing, inventingTotal, inventingCeiling, reading, leftBy, heardBy, Demand3By}
+use Rattle.demand.specs.Idle.{MeetsRead, MeetsUpdate, MeetsFill, idleFill, idleUpdate, passingRead, echoingSteps, echoingRead, emptySteps, emptyRead, refusingRead, inventing, inventingTotal, inventingCeiling, reading, leftBy, heardBy, Demand3By}
 use Rattle.demand.proofs.Computing.{computing}
 use Rattle.demand.proofs.EveryList.{demand3}
 
@@ -46,7 +46,7 @@ unfolding computing passingRead
 passing-read-breaks meets = let e : _≡_ {A = ℕ} 104 4000 = ap answered (meets sampleStart 5 3) in omega arith
 
 pub echoing-read-breaks : ¬ MeetsRead echoingRead
-unfolding computing echo echoingSteps echoingRead
+unfolding computing echoingSteps echoingRead
 echoing-read-breaks meets =
     let e : _≡_ {A = ℕ} 3 4 = ap totalAfter (meets (readOutcome sampleStart 5 3 .after) 5 1) in
     omega arith
@@ -69,7 +69,7 @@ inventing-ceiling-breaks meets = let e : _≡_ {A = ℕ} 3 0 = ap ceilingAfter (
 
 -- ---- demand 3, of the sample's first read and another of the same class
 pub echoing-breaks-demand3 : ¬ Demand3By echoingRead (reading 5 3 ∷ reading 5 1 ∷ [])
-unfolding computing echo echoingSteps echoingRead leftBy heardBy
+unfolding computing echoingSteps echoingRead leftBy heardBy
 echoing-breaks-demand3 d = let e : _≡_ {A = ℕ} 3 4 = d .total in omega arith
 
 pub inventing-total-breaks-demand3 : ¬ Demand3By inventingTotal (reading 5 3 ∷ [])

@@ -6,14 +6,12 @@ use mathlib.Core.List.{List, [], _∷_}
 use lib.ListN.{length, replicate}
 use lib.Dec.{eqb}
 use Rattle.rules.specs.declared.Gauge.{Gauge}
-use Rattle.rules.specs.declared.Found.{Found}
-use Rattle.rules.specs.declared.Found.the-variants.{Nowhere, At}
 use Rattle.rules.specs.declared.Answer.{Answer}
 use Rattle.rules.specs.declared.Answer.the-variants.{Unknown, Passed, Refused}
 use Rattle.rules.specs.Pass.{if_then_else_}
-use Rattle.rules.specs.Table.{Memory, keyRecord, places, size, withTable, withGauge}
+use Rattle.rules.specs.Table.{Memory, size, withTable, withGauge}
 use Rattle.rules.specs.Answers.{noLine, wrongSizes, isRefused}
-use Rattle.rules.specs.Steps.{Outcome, outcome, decayFor, grown, readAnswer, readSteps}
+use Rattle.rules.specs.Steps.{Outcome, outcome, decayFor, grown, peekSteps, readSteps}
 use Rattle.rules.specs.Calls.{unless, leaving, readVerdict, updateVerdict, fillVerdict, readOutcome, updateOutcome, fillOutcome}
 use Rattle.rules.specs.Replay.{unheard}
 use Rattle.rules.specs.Sample.{sampleStart}
@@ -44,15 +42,10 @@ idleUpdate m key w = unless (updateVerdict m w) (leaving m) (outcome Unknown m)
 unfoldable pub passingRead : Memory → ℕ → ℕ → Outcome Answer Memory
 passingRead m key w = unless (readVerdict m w) (leaving m) (outcome Passed m)
 
--- | and then only echoes: the answer is as the table stands
-unfoldable pub echo : Found → Answer
-echo Nowhere = Passed
-echo (At i r) = readAnswer r
-
--- | one that tracks the first read: the one that finds a total of 0
+-- | one that tracks the first read and then only echoes
+-- The first is the one that finds a total of 0; to echo is to take every read for a look.
 unfoldable pub echoingSteps : Memory → ℕ → ℕ → Outcome Answer Memory
-echoingSteps m key w =
-    if eqb (m .gauge .total) 0 then readSteps m key w else outcome (echo (keyRecord key (places m) (size m))) m
+echoingSteps m key w = if eqb (m .gauge .total) 0 then readSteps m key w else peekSteps m key
 
 unfoldable pub echoingRead : Memory → ℕ → ℕ → Outcome Answer Memory
 echoingRead m key w = unless (readVerdict m w) (leaving m) (echoingSteps m key w)

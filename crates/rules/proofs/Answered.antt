@@ -19,7 +19,7 @@ use Rattle.rules.specs.declared.Answer.the-variants.{Aged, Changed, Unkn
 use Rattle.rules.specs.Pass.{if_then_else_}
 use Rattle.rules.specs.Table.{Memory, isTracked, isLined, isFilled, lineOf, emptyState, withHeat, withState, heated, agedRecord, halfDown, newRecord, unlined, onEmptyLine, hasKey, keyRecord, freeRecord, victim, hotter, coldestLined, lowestUnused, mostTotal, places, size, lineTotal, withTable, withGauge, write}
 use Rattle.rules.specs.Answers.{numberOf, isRefused, Told}
-use Rattle.rules.specs.Steps.{Outcome, agedGauge, aged, giveLine, handOver, decayFor, grown, track, raised, evict, replaceColdest, promote, admit, readAnswer, admission, place, readCounted, readSteps}
+use Rattle.rules.specs.Steps.{Outcome, agedGauge, aged, giveLine, handOver, decayFor, grown, track, raised, evict, replaceColdest, promote, admit, readAnswer, admission, place, readCounted, warmSteps, peekAnswer, peekSteps, readSteps}
 use Rattle.rules.specs.Calls.{mostWeight, orderGood, unless, leaving, readVerdict, readOutcome, HostMemory, held, verdict, gaugeTest, hosted, exported}
 use Rattle.rules.specs.Numbers.{standing, readNumber, NamesLine, TellsLine}
 use Rattle.rules.specs.Replay.{at}
@@ -288,13 +288,35 @@ module _ (key w : ℕ) (light : w ≤ mostWeight) (fits : key < 2 ^ 64) where
   unfolding readCounted grown withGauge lineTotal
   counted-answers m h = placed-answers (grown w m) (gauged-fit _ m (h .ceiling-most) h) _ _ _ refl refl refl
 
-  steps-answers : (m : Memory) → Fit m → Answers (lineTotal m) key (readSteps m key w)
-  unfolding readSteps decayFor aged withGauge withTable lineTotal
-  steps-answers m h = go (ltb mostTotal (m .gauge .total + w))
+  warm-answers : (m : Memory) → Fit m → Answers (lineTotal m) key (warmSteps m key w)
+  unfolding warmSteps decayFor aged withGauge withTable lineTotal
+  warm-answers m h = go (ltb mostTotal (m .gauge .total + w))
     where
       go : (b : Bool) → Answers (lineTotal m) key (readCounted (grown w (if b then aged m else m)) key w)
       go true = counted-answers (aged m) (aged-fit m h)
       go false = counted-answers m h
+
+  -- a look
+  peek-answers : (m : Memory) → Lines m → Answers (lineTotal m) key (peekSteps m key)
+  unfolding peekSteps peekAnswer numberOf standing
+  peek-answers m h =
+      let told = go (keyRecord key (places m) (size m)) refl in
+      record { number = told .0; names = told .1 }
+    where
+      go : (x : Found) → keyRecord key (places m) (size m) ≡ x →
+          (numberOf (peekAnswer x) ≡ standing x) × NamesLine (lineTotal m) (peekAnswer x)
+      go Nowhere e = (refl, passed-names (lineTotal m))
+      go (At i r) e =
+          let found = key-found (places m) (size m) key i r e in
+          (stands i r, answer-names (lineTotal m) r (h .few) (rw (found .is) (h .state-most i (found .inside))))
+
+  steps-answers : (m : Memory) → Fit m → Answers (lineTotal m) key (readSteps m key w)
+  unfolding readSteps
+  steps-answers m h = go (eqb w 0)
+    where
+      go : (b : Bool) → Answers (lineTotal m) key (if b then peekSteps m key else warmSteps m key w)
+      go true = peek-answers m (h .lines)
+      go false = warm-answers m h
 
 accepted-answers : (m : Memory) (key w : ℕ) → IsBytes (m .table) → key < 2 ^ 64 → readVerdict m w ≡ Accepted →
     Answers (lineTotal m) key (readSteps m key w)

@@ -64,6 +64,7 @@ pub update-more-weight-refused : updateVerdict (cleared 1 0 0) 65536 ≡ Verdict
 unfolding computing
 update-more-weight-refused = refl
 
+-- | Updates of weight 0 are still refused with 2. (Document 02)
 pub update-no-weight-refused : updateVerdict (stated 4) 0 ≡ Verdict.Refused 2
 unfolding computing
 update-no-weight-refused = refl
@@ -90,7 +91,7 @@ unfolding computing
 state-4-not = refl
 
 -- ---- | Order of tests: 1, then 2 or 4, then 3, 5, 6.
-pub sizes-before-weight : readVerdict (cleared 1 1 0) 0 ≡ Verdict.Refused 1
+pub sizes-before-weight : readVerdict (cleared 1 1 0) 65536 ≡ Verdict.Refused 1
 unfolding computing
 sizes-before-weight = refl
 
@@ -102,7 +103,7 @@ pub sizes-before-picture : fillVerdict (cleared 1 1 0) [] ≡ Verdict.Refused 1
 unfolding computing
 sizes-before-picture = refl
 
-pub weight-before-order : readVerdict (stated 4) 0 ≡ Verdict.Refused 2
+pub weight-before-order : readVerdict (stated 4) 65536 ≡ Verdict.Refused 2
 unfolding computing
 weight-before-order = refl
 

@@ -15,8 +15,8 @@ use Rattle.rules.specs.Table.{Memory, keyRecord, places, size}
 use Rattle.rules.specs.Calls.{OfSizes, exported, plainVerdict, readOutcome, updateOutcome, levelledOutcome, showLine}
 use Rattle.rules.specs.Answers.{said}
 use Rattle.rules.specs.Numbers.{NamesLine, TellsLine, keySaid, formGood, formValues, saidAt}
-use Rattle.rules.specs.Journal.{decimal, printed, printedAll, journalRun, entryAt, decoded}
-use Rattle.rules.specs.Sample.{sampleJournal, sampleStart, sampleEnd, hostStart, numbers, threeRecords}
+use Rattle.rules.specs.Journal.{decimal, printed, printedAll, journalRun, entryAt, decoded, storedWord, passedWord, hitWord, wantedWord}
+use Rattle.rules.specs.Sample.{sampleEntry, sampleJournal, sampleStart, sampleEnd, hostStart, row, numbers, threeRecords}
 use Rattle.rules.proofs.Computing.{computing}
 
 -- ---- the sample
@@ -141,6 +141,13 @@ pub refused-rows : printedAll (journalRun sampleStart (replicate 159 0) .rows)
     ∷ 50 ∷ 32 ∷ 114 ∷ 101 ∷ 102 ∷ 117 ∷ 115 ∷ 101 ∷ 100 ∷ 45 ∷ 56 ∷ 32 ∷ 48 ∷ 32 ∷ 48 ∷ 10 ∷ []
 unfolding computing printedAll printed
 refused-rows = refl
+
+-- looks: at an empty line, at a filled one, of an untracked class
+pub looks-printed :
+    journalRun sampleStart (sampleEntry 1 5 3 0 ++ sampleEntry 1 5 0 0 ++ sampleEntry 3 5 0 105 ++ sampleEntry 1 5 0 0 ++ sampleEntry 1 9 0 0) .rows
+    ≡ row 1 wantedWord 3 0 ∷ row 2 wantedWord 3 0 ∷ row 3 storedWord 3 0 ∷ row 4 hitWord 3 0 ∷ row 5 passedWord 3 0 ∷ []
+unfolding computing
+looks-printed = refl
 
 pub ten-digits : decimal 4294967295 ≡ 52 ∷ 50 ∷ 57 ∷ 52 ∷ 57 ∷ 54 ∷ 55 ∷ 50 ∷ 57 ∷ 53 ∷ []
 unfolding computing

@@ -24,6 +24,7 @@ pub mod FillHolds
 pub mod Verdicts
 pub mod FreshHolds
 pub mod Refusals
+pub mod Peek
 pub mod Numbers
 pub mod HostCalls
 pub mod Answered

@@ -14,9 +14,9 @@ use Rattle.rules.specs.declared.Found.the-variants.{Nowhere, At}
 use Rattle.rules.specs.Bytes.{lineAt}
 use Rattle.rules.specs.Pass.{if_then_else_}
 use Rattle.rules.specs.Table.{Memory, isFree, isZero, heated, withHeat, newRecord, keyRecord, freeRecord, victim, halfDown, mostTotal, places, size, lineTotal, withTable, withGauge, write}
-use Rattle.rules.specs.Steps.{aged, agedGauge, decayFor, grown, track, raised, evict, admission, place, readCounted, readSteps, level}
+use Rattle.rules.specs.Steps.{aged, agedGauge, decayFor, grown, track, raised, evict, admission, place, readCounted, warmSteps, peekSteps, readSteps, level}
 use Rattle.rules.specs.Calls.{mostWeight}
-use Rattle.rules.specs.Replay.{Truth, ageTruth, grownTruth, readTruth}
+use Rattle.rules.specs.Replay.{Truth, ageTruth, grownTruth, warmTruth, readTruth}
 use Rattle.rules.proofs.Places.{IsRecord, recordAt-is}
 use Rattle.rules.proofs.Searches.{both}
 use Rattle.rules.proofs.Finds.{key-found, key-missing, free-found, free-missing, victim-found}
@@ -142,15 +142,24 @@ aged-room : (m : Memory) (w : ℕ) → w ≤ mostWeight → m .gauge .total ≤ 
 unfolding aged agedGauge withGauge withTable halfDown
 aged-room m w small most = omega arith
 
-pub read-holds : (m : Memory) (t : Truth) (key w : ℕ) → Holds m t → w ≤ mostWeight → key < 2 ^ 64 →
-    Holds (readSteps m key w .after) (readTruth t key w)
-unfolding readSteps decayFor readTruth
-read-holds m t key w h small fits =
+warm-holds : (m : Memory) (t : Truth) (key w : ℕ) → Holds m t → w ≤ mostWeight → key < 2 ^ 64 →
+    Holds (warmSteps m key w .after) (warmTruth t key w)
+unfolding warmSteps decayFor warmTruth
+warm-holds m t key w h small fits =
     subst
-    (λ (total : ℕ). Holds (readSteps m key w .after) (grownTruth (if ltb mostTotal (total + w) then ageTruth t else t) key w))
+    (λ (total : ℕ). Holds (warmSteps m key w .after) (grownTruth (if ltb mostTotal (total + w) then ageTruth t else t) key w))
     (h .sound .total) (go (ltb mostTotal (m .gauge .total + w)) refl)
   where
     go : (b : Bool) → ltb mostTotal (m .gauge .total + w) ≡ b →
         Holds (readCounted (grown w (if b then aged m else m)) key w .after) (grownTruth (if b then ageTruth t else t) key w)
     go true e = counted-holds (aged m) (ageTruth t) key w (age-holds m t h) (aged-room m w small (h .sound .total-most)) fits
     go false e = counted-holds m t key w h (ltb-false mostTotal (m .gauge .total + w) e) fits
+
+pub read-holds : (m : Memory) (t : Truth) (key w : ℕ) → Holds m t → w ≤ mostWeight → key < 2 ^ 64 →
+    Holds (readSteps m key w .after) (readTruth t key w)
+unfolding readSteps peekSteps readTruth
+read-holds m t key w h small fits = go (eqb w 0)
+  where
+    go : (b : Bool) → Holds ((if b then peekSteps m key else warmSteps m key w) .after) (if b then t else warmTruth t key w)
+    go true = h
+    go false = warm-holds m t key w h small fits

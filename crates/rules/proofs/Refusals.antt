@@ -7,6 +7,7 @@ use mathlib.Core.List.{List, [], _∷_}
 use native.Mathlib.Omega.{arith}
 use borrow.Author.Tests.{lt-ltb, le-ltb, eqb-true}
 use lib.ListN.{length}
+use lib.Dec.{eqb}
 use Rattle.rules.specs.declared.Record.{Record}
 use Rattle.rules.specs.declared.Verdict.{Verdict}
 use Rattle.rules.specs.declared.Verdict.the-variants.{Accepted}
@@ -20,7 +21,7 @@ use Rattle.rules.specs.Bytes.{gaugeSize}
 use Rattle.rules.specs.Pass.{if_then_else_}
 use Rattle.rules.specs.Table.{Memory, isLined, isFilled, lineOf, lookup, places, size}
 use Rattle.rules.specs.Answers.{isRefused, numberOf, Told}
-use Rattle.rules.specs.Steps.{Outcome, outcome, ageSteps, readAnswer, admission, place, readCounted, readSteps, change, updateSteps, store, fillSteps, decayFor, grown}
+use Rattle.rules.specs.Steps.{Outcome, outcome, ageSteps, readAnswer, admission, place, readCounted, warmSteps, peekAnswer, peekSteps, readSteps, change, updateSteps, store, fillSteps, decayFor, grown}
 use Rattle.rules.specs.Calls.{Test, unless, leaving, sizesTest, orderTest, HostMemory, held, stored, gaugeTest, verdict, hosted, plainVerdict, readVerdict, updateVerdict, fillVerdict, ageOutcome, readOutcome, updateOutcome, fillOutcome}
 use Rattle.rules.proofs.Searches.{clash}
 use Rattle.rules.proofs.Verdicts.{first-passes, refused-leaves}
@@ -42,9 +43,18 @@ place-answers m key w Nowhere (At i r) z = read-answers _
 place-answers m key w Nowhere Nowhere (At i r) = read-answers _
 place-answers m key w Nowhere Nowhere Nowhere = refl
 
+peek-answers : (x : Found) → isRefused (peekAnswer x) ≡ false
+unfolding peekAnswer isRefused
+peek-answers Nowhere = refl
+peek-answers (At i r) = read-answers _
+
 read-steps-answer : (m : Memory) (key w : ℕ) → isRefused (readSteps m key w .answer) ≡ false
-unfolding readSteps readCounted
-read-steps-answer m key w = place-answers (grown w (decayFor w m)) key w _ _ _
+unfolding readSteps peekSteps warmSteps readCounted
+read-steps-answer m key w = go (eqb w 0)
+  where
+    go : (b : Bool) → isRefused ((if b then peekSteps m key else warmSteps m key w) .answer) ≡ false
+    go true = peek-answers _
+    go false = place-answers (grown w (decayFor w m)) key w _ _ _
 
 change-answers : (m : Memory) (w : ℕ) (x : Found) → isRefused (change m w x .answer) ≡ false
 unfolding change isRefused

@@ -60,7 +60,7 @@ read-accepted m w e =
     let a = first-passes _ _ e in
     let b = first-passes _ _ (a .1) in
     let c = first-passes _ _ (b .1) in
-    record { sizes = a .0; good = leb-true w mostWeight (both (leb 1 w) (leb w mostWeight) (b .0) .1); order = c .0 }
+    record { sizes = a .0; good = leb-true w mostWeight (b .0); order = c .0 }
 
 pub update-accepted : (m : Memory) (w : ℕ) → updateVerdict m w ≡ Accepted → MoreAccepted m (w ≤ mostWeight)
 unfolding updateVerdict sizesTest orderTest updateWeightGood

@@ -47,10 +47,11 @@ pub record OfSizes (m : Memory) (k c : ℕ) : Type 0 where
 abbrev pub mostWeight : ℕ
 mostWeight = 65535
 
+-- | A read of weight 0 is now accepted. (Document 02)
 unfoldable pub readWeightGood : ℕ → Bool
-readWeightGood w = leb 1 w && leb w mostWeight
+readWeightGood w = leb w mostWeight
 
--- | Update of a key with weight w, 1 to 65,535
+-- | Update of a key with weight w, 1 to 65,535. .. Updates of weight 0 are still refused with 2. (Document 02)
 unfoldable pub updateWeightGood : ℕ → Bool
 updateWeightGood w = leb 1 w && leb w mostWeight
 

@@ -34,8 +34,12 @@ grownTruth t key w =
     record { total = t .total + w; heat = at key (t .heat key + w) (t .heat); picture = t .picture; fewest = t .fewest }
 
 -- | Read: if true total + w exceeds L, an aging first.
+unfoldable pub warmTruth : Truth → ℕ → ℕ → Truth
+warmTruth t key w = grownTruth (if ltb mostTotal (t .total + w) then ageTruth t else t) key w
+
+-- | a look counts for nothing in the replay (document 02)
 unfoldable pub readTruth : Truth → ℕ → ℕ → Truth
-readTruth t key w = grownTruth (if ltb mostTotal (t .total + w) then ageTruth t else t) key w
+readTruth t key w = if eqb w 0 then t else warmTruth t key w
 
 -- | Update, of a key tracked or not: the key's true heat falls by w, not below 0, and its picture becomes none.
 unfoldable pub updateTruth : Truth → ℕ → ℕ → Truth

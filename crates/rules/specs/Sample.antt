@@ -45,7 +45,7 @@ sampleLent =
 unfoldable pub sampleStart : Memory
 sampleStart = freshOutcome sampleLent .after
 
-abbrev row : ℕ → List ℕ → ℕ → ℕ → Row
+abbrev pub row : ℕ → List ℕ → ℕ → ℕ → Row
 row number word total ceiling = record { number = number; word = word; total = total; ceiling = ceiling }
 
 -- | Output, whole

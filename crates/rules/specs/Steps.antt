@@ -3,7 +3,7 @@ use Prim.Native.Nat.{ℕ, _+_, max}
 use mathlib.Core.List.{List}
 use mathlib.Core.Bool.{true, false}
 use mathlib.Core.Option.{Option, none, some}
-use lib.Dec.{ltb}
+use lib.Dec.{ltb, eqb}
 use Rattle.rules.specs.declared.Record.{Record}
 use Rattle.rules.specs.declared.Gauge.{Gauge}
 use Rattle.rules.specs.declared.Found.{Found}
@@ -102,8 +102,21 @@ readCounted m key w =
     (freeRecord (places m) (size m))
     (victim (places m) (size m))
 
+unfoldable pub warmSteps : Memory → ℕ → ℕ → Outcome Answer Memory
+warmSteps m key w = readCounted (grown w (decayFor w m)) key w
+
+-- a look, which is a read of weight 0 (document 02)
+-- | It answers hit, wanted or passed as the table stands, an untracked key being passed
+unfoldable pub peekAnswer : Found → Answer
+peekAnswer Nowhere = Passed
+peekAnswer (At i r) = readAnswer r
+
+-- | and changes nothing
+unfoldable pub peekSteps : Memory → ℕ → Outcome Answer Memory
+peekSteps m key = outcome (peekAnswer (keyRecord key (places m) (size m))) m
+
 unfoldable pub readSteps : Memory → ℕ → ℕ → Outcome Answer Memory
-readSteps m key w = readCounted (grown w (decayFor w m)) key w
+readSteps m key w = if eqb w 0 then peekSteps m key else warmSteps m key w
 
 -- ---- Update
 -- | If it has a line and the hottest record without one (first among equals) is now strictly hotter, that record takes the

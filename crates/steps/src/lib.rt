@@ -2,11 +2,11 @@
 ghost use mathlib.Core.Path.{_≡_};
 ghost use Prim.Native.Nat.{_≤_, _<_, _^_};
 ghost use Rattle.rules.specs.Bytes.{recordAt, recordCount};
-ghost use Rattle.rules.specs.Table.{mostTotal, agedRecord, freeRecord, victim, changeAll};
+ghost use Rattle.rules.specs.Table.{mostTotal, agedRecord, keyRecord, freeRecord, victim, changeAll};
 ghost use Rattle.rules.specs.Calls.{mostWeight, lent, left};
 ghost use Rattle.rules.specs.declared.Found.the-variants.{Nowhere};
 ghost use Rattle.rules.specs.Answers.{numberOf};
-ghost use Rattle.rules.specs.Steps.{aged, decayFor, track, admission, place, readCounted, readSteps, updateSteps};
+ghost use Rattle.rules.specs.Steps.{aged, decayFor, track, admission, place, readCounted, peekAnswer, readSteps, updateSteps};
 ghost use Rattle.lines.specs.Room.{LinesFit, HeatsBelow};
 ghost use Rattle.steps.specs.Room.{HeatsFit};
 use fields::aged_record;
@@ -148,11 +148,27 @@ fn read_counted(table: &mut [u8], gauge: Gauge, lines: &[u8], key: u64, weight: 
     admission(table, gauge, lines, i)
 }
 
+// A look: how the table stands.
+fn peek(table: &[u8], key: u64) -> Answer
+    ensures { λ a. ⌜ a ≡ peekAnswer (keyRecord key (recordAt (now (table .entry))) (recordCount (now (table .entry)))) ⌝ }
+    ensures { λ a. ⌜ numberOf a < 2 ^ 64 ⌝ }
+{
+    let found = key_record(table, key);
+    let Found::At(_, r) = found else {
+        return Answer::Passed;
+    };
+    read_answer(r)
+}
+
 pub fn read_steps(table: &mut [u8], gauge: Gauge, lines: &[u8], key: u64, weight: u64) -> Reply
     requires { ⌜ (gauge .total ≤ mostTotal) × (weight ≤ mostWeight) × HeatsFit (lent (now table) gauge (now lines)) × LinesFit (lent (now table) gauge (now lines)) ⌝ }
     ensures { λ r. ⌜ left r (now (table .exit)) (now (lines .entry)) ≡ readSteps (lent (now (table .entry)) gauge (now (lines .entry))) key weight ⌝ }
     ensures { λ r. ⌜ numberOf (r .answer) < 2 ^ 64 ⌝ }
 {
+    if weight == 0 {
+        let answer = peek(table, key);
+        return Reply { answer, gauge };
+    }
     let decayed = decay_for(table, gauge, lines, weight);
     let grown = Gauge {
         total: decayed.total + weight,

@@ -116,13 +116,7 @@ pub fn plain_verdict(table: &[u8], gauge: Gauge, lines: &[u8]) -> Verdict
 pub fn read_verdict(table: &[u8], gauge: Gauge, lines: &[u8], weight: u64) -> Verdict
     ensures { λ v. ⌜ v ≡ readVerdict (lent (now (table .entry)) gauge (now (lines .entry))) weight ⌝ }
 {
-    checked(
-        table,
-        gauge,
-        lines,
-        1 <= weight && weight <= MOST_WEIGHT,
-        WRONG_WEIGHT,
-    )
+    checked(table, gauge, lines, weight <= MOST_WEIGHT, WRONG_WEIGHT)
 }
 
 pub fn update_verdict(table: &[u8], gauge: Gauge, lines: &[u8], weight: u64) -> Verdict

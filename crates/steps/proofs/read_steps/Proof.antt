@@ -1,15 +1,16 @@
--- `steps::read_steps` meets its contract: its two steps are the definition's. An aging keeps the room that the steps want, and
--- the total before it grows is at most L. Assumes nothing.
+-- `steps::read_steps` meets its contract: a look by definition; otherwise its two steps are the definition's. An aging keeps the room
+-- that the steps want, and the total before it grows is at most L. Assumes nothing.
 use Prim.Native.Nat.{ℕ, _+_, _≤_}
 use mathlib.Core.Path.{subst, sym}
 use mathlib.Core.Bool.{Bool, true, false}
 use native.Mathlib.Omega.{arith}
+use borrow.Author.Tests.{eq-eqb, ne-eqb}
 use borrow.Author.Needs.{needs}
 use lib.Dec.{ltb}
 use denote.Ref.{now}
 use Rattle.rules.specs.Pass.{if_then_else_}
 use Rattle.rules.specs.Table.{Memory, mostTotal, halfDown, places, size, withGauge}
-use Rattle.rules.specs.Steps.{aged, agedGauge, decayFor, grown, readSteps}
+use Rattle.rules.specs.Steps.{aged, agedGauge, decayFor, grown, warmSteps, peekSteps, readSteps}
 use Rattle.rules.specs.Calls.{lent}
 use Rattle.rules.proofs.Words.{IsBytes}
 use Rattle.lines.specs.Room.{LinesFit}
@@ -17,6 +18,16 @@ use Rattle.steps.specs.Room.{HeatsFit}
 use Rattle.steps.proofs.Rooms.{lines-gauge, aged-heats, aged-lines}
 use Rattle.steps.proofs.read_steps.Statement.{statement}
 use Rattle.steps.proofs.read_steps.Tie as tie
+
+peek-requires : tie.Need-peek-requires
+peek-requires c κs = search needs
+
+same-length : tie.Need-same-length
+same-length c = search needs
+
+returns : tie.Need-returns
+unfolding readSteps peekSteps places size
+returns c = (rw (eq-eqb _ _ (c .before .before .if1 .taken), ← c .peek .ensures .0), c .peek .ensures .1)
 
 decay-for-requires : tie.Need-decay-for-requires
 decay-for-requires c κs = search needs
@@ -33,32 +44,32 @@ room-made w m bytes (total, heats, lines) = go (ltb mostTotal (m .gauge .total +
     go false = (total, heats, lines)
 
 roomy : (c : tie.After-decay-for) →
-    Roomy (lent (c .decay-for .last .0) (c .decay-for .result) (now (c .before .before .before .before .args .lines)))
+    Roomy (lent (c .decay-for .last .0) (c .decay-for .result) (now (c .before .before .before .before .before .args .lines)))
 roomy c =
-    let known = c .before .before .before in
+    let known = c .before .before .before .before in
     let bytes : IsBytes (now (known .before .args .table)) = record { below = λ i. known .slice-known .given i .fits } in
     let (total, weight, heats, lines) = known .before .pre in
     subst Roomy (sym (c .decay-for .ensures)) (room-made _ _ bytes (total, heats, lines))
 
-add-t10 : tie.Need-add-t10
-add-t10 c = let made = c .before .before .before in omega (arith, roomy made .0, made .before .before .before .before .pre .1)
+add-t14 : tie.Need-add-t14
+add-t14 c = let made = c .before .before .before in omega (arith, roomy made .0, made .before .before .before .before .before .pre .1)
 
 read-counted-requires : tie.Need-read-counted-requires
 unfolding places size withGauge
 read-counted-requires c κs =
     let made = c .before .before .before .before in
     let (total, heats, lines) = roomy made in
-    (made .before .before .before .before .pre .1, record { ceiling = omega (arith, heats .ceiling); heat = heats .heat }, lines-gauge _ _ lines)
+    (made .before .before .before .before .before .pre .1, record { ceiling = omega (arith, heats .ceiling); heat = heats .heat }, lines-gauge _ _ lines)
 
-same-length : tie.Need-same-length
-same-length c = search needs
+same-length-2 : tie.Need-same-length-2
+same-length-2 c = search needs
 
-returns : tie.Need-returns
-unfolding readSteps grown withGauge
-returns c =
+returns-2 : tie.Need-returns-2
+unfolding readSteps warmSteps grown withGauge
+returns-2 c =
     let made = c .before .before .before .before .before .before .before in
-    rw (← made .decay-for .ensures) (c .before .before .read-counted .ensures)
+    rw (ne-eqb _ _ (made .before .before .if1 .left), ← made .decay-for .ensures) (c .before .before .read-counted .ensures)
 
 pub read-steps-spec : {M : Type 1} → statement M
 read-steps-spec =
-    tie.close (tie.spec decay-for-requires add-t10 read-counted-requires same-length returns)
+    tie.close (tie.spec peek-requires same-length returns decay-for-requires add-t14 read-counted-requires same-length-2 returns-2)

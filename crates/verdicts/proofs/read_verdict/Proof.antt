@@ -1,6 +1,4 @@
 -- `verdicts::read_verdict` meets its contract: by definition, with the test of the weight. Assumes nothing.
-use mathlib.Core.Logic.{⊎-elim}
-use borrow.Author.Tests.{le-leb, lt-leb}
 use borrow.Author.Needs.{needs}
 use Rattle.rules.specs.Calls.{readVerdict, readWeightGood}
 use Rattle.verdicts.proofs.read_verdict.Statement.{statement}
@@ -11,11 +9,7 @@ checked-requires c κs = search needs
 
 returns : tie.Need-returns
 unfolding readVerdict readWeightGood
-returns c =
-    ⊎-elim
-    (λ a. rw (le-leb 1 _ (a .0 .taken)) (rw (a .1) at (c .checked .ensures)))
-    (λ a. rw (lt-leb 1 _ (a .0 .left)) (rw (a .1, lt-leb 1 _ (a .0 .left)) at (c .checked .ensures)))
-    (c .before .if1 .came)
+returns c = c .checked .ensures
 
 pub read-verdict-spec : {M : Type 1} → statement M
 read-verdict-spec = tie.close (tie.spec checked-requires returns)
