@@ -1,4 +1,4 @@
-/* The exported calls of the cache in plain C, written from document 01.
+/* The exported calls of the cache in plain C, written from documents 01 and 02.
  * The lent bytes are the only state, so each call tests the whole table. */
 #include "plain.h"
 
@@ -181,6 +181,14 @@ static uint8_t *track(uint8_t *table, size_t table_len, uint8_t *gauge,
     return r;
 }
 
+/* What a read answers of a record's state. */
+static uint64_t standing(uint64_t state)
+{
+    if (!on_line(state))
+        return PASSED;
+    return (is_filled(state) ? HIT : WANTED) + line_of(state);
+}
+
 uint64_t plain_read(uint8_t *table, size_t table_len,
                     uint8_t *gauge, size_t gauge_len,
                     const uint8_t *lines, size_t lines_len,
@@ -192,11 +200,15 @@ uint64_t plain_read(uint8_t *table, size_t table_len,
     (void)lines;
     if (!sizes_fit(table_len, gauge_len, lines_len))
         return BAD_SIZE;
-    if (weight == 0 || weight > MAX_WEIGHT)
+    if (weight > MAX_WEIGHT)
         return BAD_WEIGHT;
     if (!in_order(table, table_len, gauge, lines_len))
         return BAD_ORDER;
 
+    if (weight == 0) { /* a look */
+        r = find(table, table_len, key);
+        return standing(r ? get(r + STATE) : FREE);
+    }
     if (get(gauge + TOTAL) + weight > MAX_TOTAL)
         halve(table, table_len, gauge);
     put(gauge + TOTAL, get(gauge + TOTAL) + weight);
@@ -210,9 +222,7 @@ uint64_t plain_read(uint8_t *table, size_t table_len,
     state = get(r + STATE);
     if (!on_line(state))
         state = claim_line(table, table_len, lines_len / LINE_BYTES, r);
-    if (!on_line(state))
-        return PASSED;
-    return (is_filled(state) ? HIT : WANTED) + line_of(state);
+    return standing(state);
 }
 
 uint64_t plain_update(uint8_t *table, size_t table_len,

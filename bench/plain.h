@@ -1,4 +1,4 @@
-/* The exported calls of the cache, written in plain C from document 01.
+/* The exported calls of the cache, written in plain C from documents 01 and 02.
  * They stand beside the library in bench/speed.c.
  *
  * table: K records of 32 bytes (key, heat, slack, state); gauge: 16 bytes

@@ -1,6 +1,6 @@
 /* Times the calls that a host makes rarely beside the plain C version: fresh,
- * aging and the levelled sum, from a full table of K records with K / 4 lines,
- * one call after another on the same memory.
+ * aging, the levelled sum and a look at an untracked key, from a full table of
+ * K records with K / 4 lines, one call after another on the same memory.
  * Prints a Markdown table of nanoseconds a call; exit 1 where the two differ. */
 
 #include "clock.h"
@@ -31,6 +31,8 @@ static uint64_t library_age(struct memory *m) { return cot_age(WHOLE(m)); }
 static uint64_t plain_age_of(struct memory *m) { return plain_age(WHOLE(m)); }
 static uint64_t library_sum(struct memory *m) { return cot_levelled_sum(WHOLE(m), m->sum, COT_SUM_BYTES); }
 static uint64_t plain_sum_of(struct memory *m) { return plain_levelled_sum(WHOLE(m), m->sum, COT_SUM_BYTES); }
+static uint64_t library_look(struct memory *m) { return cot_read(WHOLE(m), UINT64_MAX, 0); }
+static uint64_t plain_look_of(struct memory *m) { return plain_read(WHOLE(m), UINT64_MAX, 0); }
 
 static void fill(struct memory *m, size_t k)
 {
@@ -76,7 +78,8 @@ int main(void)
     for (size_t i = 0; i < sizeof sizes / sizeof *sizes; i++)
         if (!compare("fresh", library_fresh, plain_fresh_of, sizes[i]) ||
             !compare("age", library_age, plain_age_of, sizes[i]) ||
-            !compare("levelled sum", library_sum, plain_sum_of, sizes[i]))
+            !compare("levelled sum", library_sum, plain_sum_of, sizes[i]) ||
+            !compare("look", library_look, plain_look_of, sizes[i]))
             return 1;
     return 0;
 }

@@ -64,6 +64,21 @@ static int sort(uint64_t key, uint64_t pieces)
     return 1;
 }
 
+/* The display shows a class before any piece falls: a read of weight 0 changes nothing. */
+static int look(uint64_t key)
+{
+    printf("the display asks for class %" PRIu64 "\n", key);
+    uint64_t number = cot_read(table, sizeof table, gauge, sizeof gauge, lines, sizeof lines, key,
+                               0);
+    if (!checked(number))
+        return 0;
+    if (cot_is_hit(number))
+        printf("  shown: %s\n", (const char *)(lines + COT_LINE_BYTES * cot_line(number)));
+    else
+        printf("  not shown: %s\n", cot_is_wanted(number) ? "its line is empty" : "it has no line");
+    return 1;
+}
+
 /* The picture of a class changes in the store; the cache is told so after that. */
 static int change(uint64_t key)
 {
@@ -116,10 +131,13 @@ int main(void)
     if (!checked(cot_fresh(table, sizeof table, gauge, sizeof gauge, lines, sizeof lines)))
         return 1;
 
-    int good = sort(5, 3)     /* wanted: the picture is fetched and filled */
+    int good = look(5)        /* passed: nothing is known of class 5, and a look leaves it so */
+               && sort(5, 3)  /* wanted: the picture is fetched and filled */
+               && look(5)     /* hit */
                && sort(5, 1)  /* hit */
                && sort(7, 2)  /* passed: class 5 is hotter and there is one line */
                && change(5)   /* the line of class 5 becomes empty */
+               && look(5)     /* wanted, and the line stays empty */
                && sort(5, 1)  /* wanted again */
                && sort(5, 1)  /* hit, with the new picture */
                && age()       /* every heat is halved; the picture stays */

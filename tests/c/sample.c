@@ -1,5 +1,5 @@
-/* sample.c: document 01's thirteen sample calls, the edges for K = 3, C = 1, fresh, levelled sums
- * and the helpers of cot.h.
+/* sample.c: document 01's thirteen sample calls, the edges for K = 3, C = 1, document 02's looks,
+ * fresh, levelled sums and the helpers of cot.h.
  *
  * Prints each returned number, with the line of a hit or a wanted, and the gauge after the call.
  * A refused call must leave all lent memory as it was. The output must equal sample.expected. */
@@ -131,6 +131,17 @@ static void call_read(const char *name, uint64_t key, uint64_t weight)
 {
     keep();
     show(name, cot_read(LENT, key, weight), "");
+}
+
+/* A look is a read of weight 0. */
+static void call_look(const char *name, uint64_t key)
+{
+    const char *more = "";
+    keep();
+    uint64_t number = cot_read(LENT, key, 0);
+    if (!cot_is_refused(number))
+        more = three_kept() && sum_kept() ? ", nothing changed" : ", MEMORY CHANGED";
+    show(name, number, more);
 }
 
 static void call_update(const char *name, uint64_t key, uint64_t weight)
@@ -352,7 +363,6 @@ static void levelled_sums(void)
 static void weights_and_pictures(void)
 {
     fresh();
-    call_read("weight 0, read", 5, 0);
     call_read("weight 65536, read", 5, 65536);
     call_read("weight 2^64 - 1, read", 5, UINT64_MAX);
     call_read("weight 65535, read", 5, 65535);
@@ -371,6 +381,32 @@ static void weights_and_pictures(void)
     call_update("weight 65535, update", 5, 65535);
     call_fill("fill after an update", 5);
     call_fill("fill of an untracked key", 7);
+}
+
+static void looks(void)
+{
+    fresh();
+    call_look("look, fresh table", 5);
+    call_read("a read of it", 5, 1);
+    call_look("look, line empty", 5);
+    call_fill("its fill", 5);
+    call_look("look, line filled", 5);
+    call_look("look, untracked with free records", 7);
+    call_read("a read of that", 7, 1);
+    call_look("look, without a line", 7);
+
+    /* The one line is unused, and the total is at its limit. */
+    fresh();
+    put_gauge(4294967295u, 5);
+    put_record(1, 5, 4, 3, 1);
+    call_look("look, a line unused, total 4294967295", 5);
+    call_look("look, untracked, total 4294967295", 7);
+    call_read("a read of 1 there", 5, 1);
+
+    put_record(1, 5, 4, 3, 4);
+    call_look("look, state 4", 5);
+    gauge_len = 15;
+    call_look("look, gauge of 15 bytes and state 4", 5);
 }
 
 static void limits(void)
@@ -423,14 +459,14 @@ static void order_of_tests(void)
     fresh();
     put_gauge(4, 5);
     gauge_len = 15;
-    call_read("sizes before weight", 5, 0);
+    call_read("sizes before weight", 5, 65536);
     picture_len = 63;
     call_fill("sizes before picture", 5);
     gauge_len = 16;
     sum_len = 7;
     call_sum("sum bytes before order");
     sum_len = 8;
-    call_read("weight before order, read", 5, 0);
+    call_read("weight before order, read", 5, 65536);
     call_update("weight before order, update", 5, 0);
     call_fill("picture before order", 5);
     picture_len = 64;
@@ -465,6 +501,7 @@ int main(void)
     fresh_on_any_bytes();
     levelled_sums();
     weights_and_pictures();
+    looks();
     limits();
     not_in_order();
     order_of_tests();

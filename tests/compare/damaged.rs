@@ -1,24 +1,30 @@
-//! Group (a): single calls on damaged memory. Each memory is lent to a read, update, fill or aging,
-//! to a fresh and to a levelled sum.
+//! Group (a): single calls on damaged memory. Each memory is lent to a read, look, update, fill or
+//! aging, to a fresh and to a levelled sum.
 
 use crate::harness::{Both, Memory};
-use crate::lists::STEPS;
+use crate::lists::{STEPS, STEPS_AT_THE_LIMIT};
 use crate::model::{
     empty_on, filled_on, gauge_of, is_refused, levelled_sum, not_in_order, put_gauge, put_number,
-    put_records, records_of, wrong_picture, wrong_sizes, wrong_weight, Call, Model, Path, Record,
+    put_records, records_of, wrong_picture, wrong_read_weight, wrong_sizes, wrong_update_weight,
+    Call, Model, Path, Record,
 };
 use crate::model::{GAUGE_BYTES, L, LINE_BYTES, MOST_WEIGHT, RECORD_BYTES, SUM_BYTES, TRACKED};
 use crate::random::Random;
 use crate::Counts;
 
-/// Every answer and refusal of each call. Each must come.
-pub const ANSWERS: [&str; 25] = [
+/// Every answer and refusal of each call; a look is a read of weight 0. Each must come.
+pub const ANSWERS: [&str; 30] = [
     "read 1",
     "read 2",
     "read 3",
     "read passed",
     "read hit",
     "read wanted",
+    "look 1",
+    "look 3",
+    "look passed",
+    "look hit",
+    "look wanted",
     "update 1",
     "update 2",
     "update 3",
@@ -59,27 +65,36 @@ const ORDER: [&str; 6] = [
     "3: over C records on lines",
 ];
 
-/// The parts of cause 5 (alone), every pair of causes that can hold at once, in the order of tests,
-/// the agings of a read and doubled classes. With the parts of 1 and of 3 (alone) and the steps of
-/// the lists, each must come.
-const CAUSES: [&str; 17] = [
+/// The parts of cause 5 (alone), for each call every pair of causes that can hold at once, in the
+/// order of tests, the agings of a read, doubled classes and what a look meets in no list. With the
+/// parts of 1 and of 3 (alone) and the steps of the lists, each must come.
+const CAUSES: [&str; 26] = [
     "5: no record",
     "5: no line",
-    "1 and 2",
-    "1 and 4",
-    "1 and 3",
-    "1 and 5",
-    "1 and 6",
-    "2 and 3",
-    "4 and 3",
-    "4 and 5",
-    "4 and 6",
-    "3 and 5",
-    "3 and 6",
+    "read 1 and 2",
+    "read 1 and 3",
+    "read 2 and 3",
+    "look 1 and 3",
+    "update 1 and 2",
+    "update 1 and 3",
+    "update 2 and 3",
+    "fill 1 and 4",
+    "fill 1 and 3",
+    "fill 1 and 5",
+    "fill 1 and 6",
+    "fill 4 and 3",
+    "fill 4 and 5",
+    "fill 4 and 6",
+    "fill 3 and 5",
+    "fill 3 and 6",
+    "age 1 and 3",
     "read 1: not aged",
     "read 1: aged first",
     "doubled key",
     "doubled line",
+    "look: tracked without a line, an unused line",
+    "look: tracked without a line, hotter than one on a line",
+    "look: doubled key, a later record answers otherwise",
 ];
 
 /// What fresh and a levelled sum must meet, besides each part of 1 and, for the sum, of 3 (alone).
@@ -105,7 +120,7 @@ const FRESH_AND_SUM: [&str; 17] = [
 
 /// Special inputs: good ones in an accepted call, bad ones in a call refused for that cause. Each
 /// must come.
-const INPUTS: [&str; 29] = [
+const INPUTS: [&str; 31] = [
     "K = 1",
     "K = 1,023",
     "K = 1,024",
@@ -118,10 +133,12 @@ const INPUTS: [&str; 29] = [
     "gauge of 17 bytes",
     "key 0",
     "key 2^64 - 1",
-    "weight 0",
+    "read of weight 0",
+    "update of weight 0",
     "weight 1",
     "weight 65,535",
-    "weight 65,536",
+    "read of weight 65,536",
+    "update of weight 65,536",
     "weight 2^64 - 1",
     "picture of 0 bytes",
     "picture of 63 bytes",
@@ -137,16 +154,21 @@ const INPUTS: [&str; 29] = [
     "a state 2^64 - 1",
 ];
 
+/// The name under which a call is counted.
+fn kind_name(call: &Call) -> &'static str {
+    match call {
+        Call::Read { weight: 0, .. } => "look",
+        Call::Read { .. } => "read",
+        Call::Update { .. } => "update",
+        Call::Fill { .. } => "fill",
+        Call::Age => "age",
+        Call::Fresh => "fresh",
+        Call::LevelledSum => "sum",
+    }
+}
+
 /// The name under which a returned number is counted.
 pub fn answer_name(call: &Call, number: u64) -> &'static str {
-    let kind = match call {
-        Call::Read { .. } => "read ",
-        Call::Update { .. } => "update ",
-        Call::Fill { .. } => "fill ",
-        Call::Age => "age ",
-        Call::Fresh => "fresh ",
-        Call::LevelledSum => "sum ",
-    };
     let end = match number {
         0 => "done",
         1 => "1",
@@ -164,7 +186,7 @@ pub fn answer_name(call: &Call, number: u64) -> &'static str {
         4_000..=5_022 => "wanted",
         _ => "another number",
     };
-    let named = |name: &&&str| name.strip_prefix(kind) == Some(end);
+    let named = |name: &&&str| name.split_once(' ') == Some((kind_name(call), end));
     ANSWERS
         .iter()
         .find(named)
@@ -202,6 +224,7 @@ pub fn every_length(seed: u64, model: &Model) -> Result<u64, String> {
         let picture = random.bytes(picture);
         for call in [
             Call::Read { key: 5, weight: 3 },
+            Call::Read { key: 5, weight: 0 },
             Call::Update { key: 5, weight: 3 },
             Call::Fill { key: 5, picture },
             Call::Age,
@@ -273,9 +296,10 @@ pub fn run(seed: u64, calls: u64, model: &Model, counts: &mut Counts) -> Result<
     }
     let mut names: Vec<String> = SIZES.map(|part| format!("fresh {part}")).into();
     names.extend(SIZES.iter().chain(&ORDER).map(|part| format!("sum {part}")));
-    let alone = SIZES.iter().chain(&ORDER).chain(&CAUSES).chain(&STEPS);
+    let alone = SIZES.iter().chain(&ORDER).chain(&CAUSES);
+    let steps = STEPS.iter().chain(&STEPS_AT_THE_LIMIT);
     let rest = ANSWERS.iter().chain(&FRESH_AND_SUM).chain(&INPUTS);
-    names.extend(alone.chain(rest).map(|name| name.to_string()));
+    names.extend(alone.chain(steps).chain(rest).map(|name| name.to_string()));
     for name in names {
         if counts.of(&name) == 0 {
             return Err(format!(
@@ -302,9 +326,8 @@ fn count_pairs(case: &Case, found: u64, counts: &mut Counts) {
         causes.push(1);
     }
     match &case.call {
-        Call::Read { weight, .. } | Call::Update { weight, .. } if wrong_weight(*weight) => {
-            causes.push(2)
-        }
+        Call::Read { weight, .. } if wrong_read_weight(*weight) => causes.push(2),
+        Call::Update { weight, .. } if wrong_update_weight(*weight) => causes.push(2),
         Call::Fill { picture, .. } if wrong_picture(picture) => causes.push(4),
         _ => {}
     }
@@ -321,7 +344,7 @@ fn count_pairs(case: &Case, found: u64, counts: &mut Counts) {
     }
     if let Some((first, others)) = causes.split_first() {
         for other in others {
-            counts.add(&format!("{first} and {other}"));
+            counts.add(&format!("{} {first} and {other}", kind_name(&case.call)));
         }
     }
     if !is_refused(found) {
@@ -397,10 +420,14 @@ fn count_inputs(case: &Case, found: u64, counts: &mut Counts) {
         Call::Read { key, weight } | Call::Update { key, weight } => {
             count("key 0", accepted && *key == 0);
             count("key 2^64 - 1", accepted && *key == u64::MAX);
-            count("weight 0", found == 2 && *weight == 0);
+            let read = matches!(case.call, Call::Read { .. });
+            count("read of weight 0", accepted && read && *weight == 0);
+            count("update of weight 0", found == 2 && !read && *weight == 0);
             count("weight 1", accepted && *weight == 1);
             count("weight 65,535", accepted && *weight == 65_535);
-            count("weight 65,536", found == 2 && *weight == 65_536);
+            let over = found == 2 && *weight == 65_536;
+            count("read of weight 65,536", over && read);
+            count("update of weight 65,536", over && !read);
             count("weight 2^64 - 1", found == 2 && *weight == u64::MAX);
         }
         Call::Fill { key, picture } => {
@@ -660,7 +687,7 @@ fn some_slack(random: &mut Random) -> u64 {
 }
 
 /// A call that fits the records: of a key in the table or not, with a weight that often makes two
-/// heats equal or nearly so.
+/// heats equal or nearly so. One read in eight is a look.
 fn some_call(records: &[Record], ceiling: u64, keys: &[u64], random: &mut Random) -> Call {
     let key = match random.below(20) {
         0 => 0,
@@ -677,6 +704,7 @@ fn some_call(records: &[Record], ceiling: u64, keys: &[u64], random: &mut Random
             let coldest = heats_without_line(records).min();
             let from = own.map_or(ceiling.max(coldest.unwrap_or(0)), |r| r.heat);
             let weight = match aim {
+                _ if random.below(8) == 0 => 0,
                 Some(aim) if aim > from && random.chance(40) => near(aim - from, random),
                 _ => some_weight(random),
             };

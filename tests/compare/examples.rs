@@ -1,6 +1,6 @@
-//! Group (d): the examples of document 01 that concern the exported calls, and levelled sums worked
-//! out by hand. Each test has the document's sentence. The two examples with journals concern the
-//! program `replay` only.
+//! Group (d): the examples of document 01 that concern the exported calls, levelled sums worked out
+//! by hand, and document 02's Ask 1 on tables worked out by hand. Each test has the document's
+//! sentence. The two examples with journals concern the program `replay` only.
 
 use crate::harness::{call_text, Both, Memory};
 use crate::model::{
@@ -16,7 +16,11 @@ pub type Example = (
     fn(&Model, u64) -> Result<(), String>,
 );
 
-pub const EXAMPLES: [Example; 12] = [
+/// Document 02's sentence on what a look does.
+const LOOK: &str = "It answers hit, wanted or passed as the table stands, an untracked key being \
+                    passed, and changes nothing.";
+
+pub const EXAMPLES: [Example; 19] = [
     (
         "thirteen rows",
         "Journal: read 5 w 3; fill 5; ... read 9 w 1. Output, whole: 1 wanted 3 0 ... 13 wanted 8 1",
@@ -79,6 +83,26 @@ pub const EXAMPLES: [Example; 12] = [
         "The sum, over all K records, of the larger of heat and ceiling; free records count with \
          heat 0.",
         levelled_sums,
+    ),
+    (
+        "look: fresh table",
+        "A read of weight 0 is now accepted.",
+        look_on_a_fresh_table,
+    ),
+    ("look: answers", LOOK, look_as_the_table_stands),
+    ("look: untracked", LOOK, look_at_an_untracked_key),
+    ("look: no line taken", LOOK, look_takes_no_line),
+    ("look: total at L", LOOK, look_at_the_limit),
+    (
+        "look: not an update",
+        "Updates of weight 0 are still refused with 2.",
+        update_of_nothing,
+    ),
+    (
+        "look: in a list",
+        "Lists of calls with such looks in them are covered by demand 3, and a look counts for \
+         nothing in the replay.",
+        looks_between_the_rows,
     ),
 ];
 
@@ -144,6 +168,7 @@ impl<'a> Desk<'a> {
         for call in [
             Call::Fresh,
             read(5, 3),
+            read(5, 0),
             fill(5),
             update(5, 1),
             Call::Age,
@@ -194,6 +219,16 @@ impl<'a> Desk<'a> {
             .map_or(0, |kept| kept.heat);
         if found != due {
             return Err(format!("true heat of {key} is {found}, and {due} is due"));
+        }
+        Ok(())
+    }
+
+    /// A look must give the number and change nothing.
+    fn look(&mut self, number: u64, key: u64) -> Result<(), String> {
+        let before = self.both.librarys.clone();
+        self.gives(number, read(key, 0))?;
+        if self.both.librarys.three() != before.three() {
+            return Err(format!("a look at {key} changed lent bytes"));
         }
         Ok(())
     }
@@ -316,6 +351,7 @@ fn total_at_the_limit(model: &Model, seed: u64) -> Result<(), String> {
 fn most_state(model: &Model, seed: u64) -> Result<(), String> {
     let calls = [
         (read(5, 1), 2_000, 3),
+        (read(5, 0), 2_000, 3),
         (update(5, 1), 101, 3),
         (fill(5), 6, 3),
         (Call::Age, 100, 3),
@@ -435,6 +471,135 @@ fn levelled_sums(model: &Model, seed: u64) -> Result<(), String> {
         let mut desk = Desk::with(model, seed, gauge, records, 0);
         desk.sum(due)
             .map_err(|text| format!("K = {}, gauge {gauge:?}: {text}", records.len()))?;
+    }
+    Ok(())
+}
+
+fn look_on_a_fresh_table(model: &Model, seed: u64) -> Result<(), String> {
+    for (k, c) in [(1, 0), (3, 1), (1_024, 1_023)] {
+        let mut desk = Desk::fresh(model, seed, k, c)?;
+        for key in [0, 5, u64::MAX] {
+            desk.look(104, key)?;
+        }
+        desk.gauge(0, 0)?;
+        for place in 0..k {
+            desk.record(place, record(0, 0, 0, 0))?;
+        }
+    }
+    Ok(())
+}
+
+fn look_as_the_table_stands(model: &Model, seed: u64) -> Result<(), String> {
+    let mut desk = Desk::fresh(model, seed, 3, 1)?;
+    desk.gives(4_000, read(5, 3))?;
+    desk.look(4_000, 5)?;
+    desk.gives(103, fill(5))?;
+    desk.look(2_000, 5)?;
+    desk.gives(104, read(7, 3))?;
+    desk.look(104, 7)?;
+    desk.gauge(6, 0)?;
+    desk.record(0, record(5, 3, 0, 3))?;
+    desk.record(1, record(7, 3, 0, 1))?;
+    // Class 7 takes the line, and an update leaves it there, empty.
+    desk.gives(4_000, read(7, 2))?;
+    desk.look(104, 5)?;
+    desk.gives(103, fill(7))?;
+    desk.look(2_000, 7)?;
+    desk.gives(101, update(7, 1))?;
+    desk.look(4_000, 7)?;
+
+    // The line's own number, and the first record of a key that has two.
+    let records = [
+        record(5, 9, 0, 7),
+        record(7, 8, 0, 4),
+        record(7, 8, 0, 3),
+        record(9, 1, 0, 1),
+    ];
+    let mut desk = Desk::with(model, seed, (26, 1), &records, 3);
+    desk.look(2_002, 5)?;
+    desk.look(4_001, 7)?;
+    desk.look(104, 9)
+}
+
+fn look_at_an_untracked_key(model: &Model, seed: u64) -> Result<(), String> {
+    // A free record and an unused line: a read tracks key 7 and takes the line.
+    let records = [record(5, 9, 3, 3), record(0, 0, 0, 0), record(0, 0, 0, 0)];
+    let mut desk = Desk::with(model, seed, (9, 0), &records, 2);
+    desk.look(104, 7)?;
+    desk.look(104, 0)?;
+    desk.gives(4_001, read(7, 1))?;
+
+    // No free record: a read evicts class 9 and raises the ceiling.
+    let records = [record(5, 9, 3, 3), record(7, 4, 1, 1), record(9, 2, 1, 1)];
+    let mut desk = Desk::with(model, seed, (15, 1), &records, 1);
+    desk.look(104, 11)?;
+    desk.gives(104, read(11, 1))?;
+    desk.gauge(16, 2)?;
+    desk.record(2, record(11, 3, 2, 1))
+}
+
+fn look_takes_no_line(model: &Model, seed: u64) -> Result<(), String> {
+    // Line 0 is unused: a read takes it.
+    let records = [record(5, 9, 3, 5), record(7, 4, 1, 1), record(0, 0, 0, 0)];
+    let mut desk = Desk::with(model, seed, (13, 0), &records, 2);
+    desk.look(104, 7)?;
+    desk.gives(4_000, read(7, 1))?;
+
+    // Class 7 is hotter than class 5: a read takes its line.
+    let records = [record(5, 2, 0, 3), record(7, 9, 0, 1)];
+    let mut desk = Desk::with(model, seed, (11, 0), &records, 1);
+    desk.look(104, 7)?;
+    desk.look(2_000, 5)?;
+    desk.gives(4_000, read(7, 1))
+}
+
+fn look_at_the_limit(model: &Model, seed: u64) -> Result<(), String> {
+    let records = [record(5, 9, 3, 3), record(7, 4, 1, 1), record(0, 0, 0, 0)];
+    let mut desk = Desk::with(model, seed, (4_294_967_295, 5), &records, 1);
+    desk.look(2_000, 5)?;
+    desk.look(104, 7)?;
+    desk.look(104, 9)?;
+    desk.gauge(4_294_967_295, 5)?;
+    // A read of 1 ages first.
+    desk.gives(2_000, read(5, 1))?;
+    desk.gauge(2_147_483_648, 2)
+}
+
+fn update_of_nothing(model: &Model, seed: u64) -> Result<(), String> {
+    let mut desk = Desk::fresh(model, seed, 3, 1)?;
+    desk.gives(2, update(5, 0))?;
+    desk.rows(2)?;
+    desk.gives(2, update(5, 0))?;
+    desk.look(2_000, 5)
+}
+
+fn looks_between_the_rows(model: &Model, seed: u64) -> Result<(), String> {
+    // After each row, the class on the line and what a look at it gives.
+    let on_line = [
+        (5, 4_000),
+        (5, 2_000),
+        (5, 2_000),
+        (5, 2_000),
+        (7, 4_000),
+        (7, 4_000),
+        (7, 4_000),
+        (5, 4_000),
+        (5, 4_000),
+        (5, 4_000),
+        (5, 4_000),
+        (5, 4_000),
+        (9, 4_000),
+    ];
+    let mut desk = Desk::fresh(model, seed, 3, 1)?;
+    for ((call, number, total, ceiling), (class, answer)) in rows().into_iter().zip(on_line) {
+        desk.gives(number, call)?;
+        for key in [5, 7, 9, 11] {
+            desk.look(if key == class { answer } else { 104 }, key)?;
+        }
+        desk.gauge(total, ceiling)?;
+    }
+    for (key, heat) in [(5, 2), (7, 1), (9, 2), (11, 0)] {
+        desk.true_heat(key, heat)?;
     }
     Ok(())
 }

@@ -1,9 +1,9 @@
-//! Groups (b) and (c): lists of calls from fresh. After each call the library's levelled sum is
-//! compared, and demand 3 and the sum's bound are checked by the replay.
+//! Groups (b) and (c): lists of calls from fresh, about one call in ten a look. After each call the
+//! library's levelled sum is compared, and demand 3 and the sum's bound are checked by the replay.
 
 use crate::damaged::answer_name;
 use crate::harness::{call_text, Both, Memory};
-use crate::model::{gauge_of, is_refused, Call, Model, Path, Replay, MOST_WEIGHT};
+use crate::model::{gauge_of, is_refused, Call, Model, Path, Replay, L, MOST_WEIGHT};
 use crate::random::Random;
 use crate::Counts;
 
@@ -15,16 +15,16 @@ pub struct Plan {
     pub classes: usize,
     /// The largest weight of most reads.
     pub weight: u64,
-    /// The smallest weight of a read.
+    /// The smallest weight of a read that is no look.
     pub least: u64,
     /// Of 1,000 calls, about this many are agings.
     pub agings: u64,
-    /// Only reads, the fills that they ask for, and agings.
+    /// Only reads and looks, the fills that they ask for, and agings.
     pub reads_only: bool,
 }
 
 /// The steps that must come in the lists of group (b) together.
-pub const STEPS: [&str; 20] = [
+pub const STEPS: [&str; 27] = [
     "read 2: tracked",
     "read 3: free record",
     "read 4: ceiling raised",
@@ -45,7 +45,17 @@ pub const STEPS: [&str; 20] = [
     "update: line kept, equal heat",
     "update: line moves",
     "update: hottest first among equals",
+    "look: hit",
+    "look: wanted",
+    "look: passed, tracked",
+    "look: passed, untracked",
+    "look: untracked with a free record",
+    "look: untracked without a free record",
+    "look: untracked, an unused line",
 ];
+
+/// What must come in the lists of group (c) together. 65,537 reads of 65,535 come to a total of L.
+pub const STEPS_AT_THE_LIMIT: [&str; 1] = ["look: at total L"];
 
 /// Group (b): several K and C, with C = 0, K = 1 and C = K - 1 among them.
 pub fn plans_from_fresh() -> Vec<Plan> {
@@ -142,7 +152,7 @@ pub fn run(
     model: &Model,
     counts: &mut Counts,
 ) -> Result<u64, String> {
-    // At most 65,538 reads of 65,535 come to an aging; about half of the calls are reads.
+    // At most 65,538 reads of 65,535 come to an aging; about half of the calls are such reads.
     const MOST_CALLS_TO_AN_AGING: u64 = 200_000;
     let (part, group, most) = match end {
         End::Calls(calls) => (3, 'b', calls),
@@ -177,7 +187,8 @@ pub fn run(
         let (call, lengths) = if refuse {
             refused_call(&keys, &both.librarys, &mut random)
         } else {
-            (next_call(plan, at, &keys, wanted, &mut random), None)
+            let total = replay.total;
+            (next_call(plan, at, &keys, total, wanted, &mut random), None)
         };
         let at_call = |text: String| at_call(&format!("call {at}"), text);
 
@@ -241,7 +252,14 @@ fn some_class(at: u64, keys: &[u64], random: &mut Random) -> u64 {
     keys[((low + at / 700) % count) as usize]
 }
 
-fn next_call(plan: &Plan, at: u64, keys: &[u64], wanted: Option<u64>, random: &mut Random) -> Call {
+fn next_call(
+    plan: &Plan,
+    at: u64,
+    keys: &[u64],
+    total: u64,
+    wanted: Option<u64>,
+    random: &mut Random,
+) -> Call {
     if let Some(key) = wanted {
         // The host fetches the picture and fills, and at times does not come to it.
         if random.chance(60) {
@@ -250,6 +268,11 @@ fn next_call(plan: &Plan, at: u64, keys: &[u64], wanted: Option<u64>, random: &m
         }
     }
     let key = some_class(at, keys, random);
+    // Many looks where a read of 65,535 ages first.
+    let looks = if total + MOST_WEIGHT > L { 90 } else { 11 };
+    if random.chance(looks) {
+        return Call::Read { key, weight: 0 };
+    }
     let weight = match random.below(10) {
         _ if plan.least == plan.weight => plan.weight,
         0 => random.between(plan.least, plan.weight.max(300)),
@@ -283,14 +306,11 @@ fn next_call(plan: &Plan, at: u64, keys: &[u64], wanted: Option<u64>, random: &m
 fn refused_call(keys: &[u64], memory: &Memory, random: &mut Random) -> (Call, Option<[usize; 3]>) {
     let key = random.pick(keys);
     let (table, lines) = (memory.table.bytes().len(), memory.lines.bytes().len());
-    let bad_weight = random.pick(&[0, MOST_WEIGHT + 1, u64::MAX]);
+    let over = random.pick(&[MOST_WEIGHT + 1, u64::MAX]);
     match random.below(6) {
-        0 => {
-            let weight = bad_weight;
-            (Call::Read { key, weight }, None)
-        }
+        0 => (Call::Read { key, weight: over }, None),
         1 => {
-            let weight = bad_weight;
+            let weight = random.pick(&[0, over]);
             (Call::Update { key, weight }, None)
         }
         2 => {
@@ -298,15 +318,16 @@ fn refused_call(keys: &[u64], memory: &Memory, random: &mut Random) -> (Call, Op
             (Call::Fill { key, picture }, None)
         }
         _ => {
-            let call = match random.below(6) {
+            let call = match random.below(7) {
                 0 => Call::Read { key, weight: 1 },
-                1 => Call::Update { key, weight: 1 },
-                2 => {
+                1 => Call::Read { key, weight: 0 },
+                2 => Call::Update { key, weight: 1 },
+                3 => {
                     let picture = vec![7; 64];
                     Call::Fill { key, picture }
                 }
-                3 => Call::Age,
-                4 => Call::Fresh,
+                4 => Call::Age,
+                5 => Call::Fresh,
                 _ => Call::LevelledSum,
             };
             let lengths = random.pick(&[

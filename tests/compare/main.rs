@@ -1,5 +1,5 @@
-//! Compares libcot.a with an independent implementation of document 01: every returned number and
-//! every lent byte, with guard bytes around each buffer.
+//! Compares libcot.a with an independent implementation of documents 01 and 02: every returned
+//! number and every lent byte, with guard bytes around each buffer.
 //!
 //!     compare [--seed N] [--calls N] [--verbose] [--fault NAME]
 //!
@@ -21,10 +21,11 @@ use std::process::exit;
 const SEED: u64 = 20_210_323;
 const CALLS: u64 = 400_000;
 const USAGE: &str = "compare [--seed N] [--calls N] [--verbose] [--fault NAME]";
-const FAULTS: [(&str, Fault); 3] = [
+const FAULTS: [(&str, Fault); 4] = [
     ("admit-equal", Fault::AdmitEqual),
     ("fresh-keeps", Fault::FreshKeeps),
     ("sum-heat", Fault::SumHeat),
+    ("look-warms", Fault::LookWarms),
 ];
 
 /// How often each answer and each step came.
@@ -82,6 +83,17 @@ impl Tally {
                 self.failures.push(text);
                 None
             }
+        }
+    }
+
+    /// One test more where all of the group's lists passed: each of these steps came in them.
+    fn steps_came(&mut self, steps: &[&str], counts: &Counts, seed: u64) {
+        if self.failures.is_empty() {
+            let missing = steps.iter().find(|name| counts.of(name) == 0);
+            self.test(match missing {
+                None => Ok(()),
+                Some(name) => Err(format!("seed {seed}, lists: '{name}' never came")),
+            });
         }
     }
 
@@ -191,7 +203,6 @@ fn lists_from_fresh(options: &Options, tally: &mut Tally) {
     let calls = (options.calls / 100).max(2_000);
     let end = lists::End::Calls(calls);
     let plans = lists::plans_from_fresh();
-    let failed = tally.failed;
     for (number, plan) in plans.iter().enumerate() {
         let (seed, model) = (options.seed, &options.model);
         tally.test(lists::run(
@@ -203,16 +214,10 @@ fn lists_from_fresh(options: &Options, tally: &mut Tally) {
             &mut counts,
         ));
     }
-    if tally.failed == failed {
-        let missing = lists::STEPS.iter().find(|name| counts.of(name) == 0);
-        tally.test(match missing {
-            None => Ok(()),
-            Some(name) => Err(format!("seed {}, lists: '{name}' never came", options.seed)),
-        });
-    }
+    tally.steps_came(&lists::STEPS, &counts, options.seed);
     tally.end_group(&format!(
-        "(b) {} lists of {calls} calls, each from a fresh on any bytes; demand 3 and the library's \
-         levelled sum after each call",
+        "(b) {} lists of {calls} calls, looks among them, each from a fresh on any bytes; demand 3 \
+         and the library's levelled sum after each call",
         plans.len()
     ));
     if options.verbose {
@@ -232,8 +237,10 @@ fn lists_past_the_limit(options: &Options, tally: &mut Tally) {
         let result = lists::run(seed, number as u64, plan, end, model, &mut counts);
         calls += tally.test(result).unwrap_or(0);
     }
+    tally.steps_came(&lists::STEPS_AT_THE_LIMIT, &counts, options.seed);
     tally.end_group(&format!(
-        "(c) {} lists with reads of 65,535, each to its aging number {agings}, {calls} calls in all",
+        "(c) {} lists with reads of 65,535 and looks, each to its aging number {agings}, {calls} \
+         calls in all",
         plans.len()
     ));
     if options.verbose {
@@ -252,7 +259,7 @@ fn paper_examples(options: &Options, tally: &mut Tally) {
         tally.test(result.map_err(|text| format!("{name}: \"{sentence}\"\n{text}")));
     }
     tally.end_group(&format!(
-        "(d) {} examples of document 01",
+        "(d) {} examples of documents 01 and 02",
         examples::EXAMPLES.len()
     ));
 }

@@ -1,7 +1,8 @@
-//! The rules of document 01 for the exported calls, and the replay of demand 3.
+//! The rules of document 01 for the exported calls, with document 02's requests as landed (Ask 1),
+//! and the replay of demand 3.
 //!
 //! In document 01's order, and independent of the library's code. Words in quotes are the
-//! document's.
+//! documents'.
 
 use std::collections::BTreeMap;
 
@@ -52,6 +53,21 @@ impl Record {
     /// "3 + 2 × n is on line n, line filled."
     pub fn is_filled(&self) -> bool {
         self.state >= 2 && self.state % 2 == 1
+    }
+
+    /// "with that key and a state over 0"
+    fn is_of(&self, key: u64) -> bool {
+        self.key == key && self.state > 0
+    }
+
+    /// Step 6 of a read, and a look: "hit with the line number if its line is filled; wanted with
+    /// the number if empty; passed if it has no line".
+    fn answer(&self) -> Answer {
+        match self.line() {
+            Some(line) if self.is_filled() => Answer::Hit(line),
+            Some(line) => Answer::Wanted(line),
+            None => Answer::Passed,
+        }
     }
 }
 
@@ -222,9 +238,7 @@ impl Cache {
     /// "A key's record is the first one with that key and a state over 0; a key that has one is
     /// tracked."
     fn place_of(&self, key: u64) -> Option<usize> {
-        self.records
-            .iter()
-            .position(|record| record.key == key && record.state > 0)
+        self.records.iter().position(|record| record.is_of(key))
     }
 
     /// The coldest of the records that `of` picks, "first among equals".
@@ -278,7 +292,7 @@ impl Cache {
         Answer::Aged
     }
 
-    /// **Read** of a key with weight w.
+    /// **Read** of a key with weight w, "1 to 65,535".
     fn read(&mut self, key: u64, w: u64, admit_on_equal: bool, path: &mut Path) -> Answer {
         // 1. "If total + w exceeds L, age first. Then total grows by w."
         if self.total + w > L {
@@ -370,13 +384,63 @@ impl Cache {
             path.push("read 5: has a line");
         }
 
-        // 6. "hit with the line number if its line is filled; wanted with the number if empty;
-        // passed if it has no line"
-        let record = self.records[place];
-        match record.line() {
-            Some(line) if record.is_filled() => Answer::Hit(line),
-            Some(line) => Answer::Wanted(line),
-            None => Answer::Passed,
+        // 6. "Answer: hit ..."
+        self.records[place].answer()
+    }
+
+    /// A look, document 02's "read of weight 0". "It answers hit, wanted or passed as the table
+    /// stands, an untracked key being passed, and changes nothing."
+    fn look(&self, key: u64, path: &mut Path) -> Answer {
+        let place = self.place_of(key);
+        self.left_by_look(place, path);
+        let Some(place) = place else {
+            path.push("look: passed, untracked");
+            return Answer::Passed;
+        };
+        let answer = self.records[place].answer();
+        path.push(match answer {
+            Answer::Hit(_) => "look: hit",
+            Answer::Wanted(_) => "look: wanted",
+            _ => "look: passed, tracked",
+        });
+        // "the rules then use the first record"
+        let mut own = self.records.iter().filter(|record| record.is_of(key));
+        if own.any(|record| record.answer() != answer) {
+            path.push("look: doubled key, a later record answers otherwise");
+        }
+        answer
+    }
+
+    /// Names what the steps of a read would change, and a look leaves. The place is the key's.
+    fn left_by_look(&self, place: Option<usize>, path: &mut Path) {
+        // 1. Any weight over 0 would exceed L.
+        if self.total == L {
+            path.push("look: at total L");
+        }
+        let unused = self.unused_line().is_some();
+        match place {
+            // 3 and 4. The key would be tracked, and by 5 it might take a line.
+            None => {
+                path.push(if self.records.iter().any(Record::is_free) {
+                    "look: untracked with a free record"
+                } else {
+                    "look: untracked without a free record"
+                });
+                if unused {
+                    path.push("look: untracked, an unused line");
+                }
+            }
+            // 5. The key would take a line.
+            Some(place) if self.records[place].line().is_none() => {
+                let coldest = self.coldest(|record| record.line().is_some());
+                let heat = |place: usize| self.records[place].heat;
+                if unused {
+                    path.push("look: tracked without a line, an unused line");
+                } else if coldest.is_some_and(|coldest| heat(place) > heat(coldest)) {
+                    path.push("look: tracked without a line, hotter than one on a line");
+                }
+            }
+            Some(_) => {}
         }
     }
 
@@ -479,6 +543,8 @@ impl Replay {
             // It changes neither table nor gauge nor lines.
             Call::LevelledSum => {}
             Call::Age => self.age(),
+            // Document 02: "a look counts for nothing in the replay"
+            Call::Read { weight: 0, .. } => {}
             // "Read: if true total + w exceeds L, an aging first. Then the true total and the
             // key's true heat grow by w."
             Call::Read { key, weight } => {
@@ -647,8 +713,14 @@ pub fn wrong_sizes(table: &[u8], gauge: &[u8], lines: &[u8]) -> Path {
     causes
 }
 
-/// Cause 2: "read or update weight 0 or over 65,535".
-pub fn wrong_weight(weight: u64) -> bool {
+/// Cause 2 of a read: "over 65,535". Document 02: "A read of weight 0 is now accepted."
+pub fn wrong_read_weight(weight: u64) -> bool {
+    weight > MOST_WEIGHT
+}
+
+/// Cause 2 of an update: "weight 0 or over 65,535". Document 02: "Updates of weight 0 are still
+/// refused with 2."
+pub fn wrong_update_weight(weight: u64) -> bool {
     weight == 0 || weight > MOST_WEIGHT
 }
 
@@ -672,6 +744,8 @@ pub enum Fault {
     FreshKeeps,
     /// The levelled sum adds heats up, whatever the ceiling is.
     SumHeat,
+    /// A look takes the steps of a read, with weight 0.
+    LookWarms,
 }
 
 /// The calls on lent bytes.
@@ -700,8 +774,13 @@ impl Model {
             return Answer::Refused(1);
         }
         match call {
-            Call::Read { weight, .. } | Call::Update { weight, .. } => {
-                if wrong_weight(*weight) {
+            Call::Read { weight, .. } => {
+                if wrong_read_weight(*weight) {
+                    return Answer::Refused(2);
+                }
+            }
+            Call::Update { weight, .. } => {
+                if wrong_update_weight(*weight) {
                     return Answer::Refused(2);
                 }
             }
@@ -733,6 +812,9 @@ impl Model {
             c: (lines.len() / LINE_BYTES) as u64,
         };
         let answer = match call {
+            Call::Read { key, weight: 0 } if self.fault != Some(Fault::LookWarms) => {
+                cache.look(*key, path)
+            }
             Call::Read { key, weight } => {
                 let admit_on_equal = self.fault == Some(Fault::AdmitEqual);
                 cache.read(*key, *weight, admit_on_equal, path)
@@ -752,7 +834,8 @@ impl Model {
             }
             Call::Fresh => unreachable!("answered before the order is tested"),
         };
-        // Causes 5 and 6 are found before any number changes, so this writes back the same.
+        // A look changes no number, and causes 5 and 6 are found before any changes; so this writes
+        // back the same.
         put_records(table, &cache.records);
         put_gauge(gauge, cache.total, cache.ceiling);
         answer

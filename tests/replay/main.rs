@@ -306,6 +306,15 @@ fn cases() -> Vec<Case> {
     // 65,535 pieces a read: the total passes 4,294,967,295 after some 65,537 of them.
     let long: Vec<u8> = (0..70_000).flat_map(|i| read(i % 5, 65_535)).collect();
 
+    // Looks: at nothing, at an empty line, at a filled one, and at a class without a line.
+    let mut looks = read(5, 0);
+    looks.extend(read(5, 3));
+    looks.extend(read(5, 0));
+    looks.extend(entry(3, 5, 0, &[9; 64]));
+    looks.extend(read(5, 0));
+    looks.extend(read(7, 1));
+    looks.extend(read(7, 0));
+
     let mut some = mixed(&mut random, 3_000);
     some.extend_from_slice(&[1, 2, 3]);
 
@@ -320,6 +329,11 @@ fn cases() -> Vec<Case> {
         Case {
             begins: "1 unknown 0 0\n",
             ..case("an update of key 0 first", key_0)
+        },
+        Case {
+            begins: "1 passed 0 0\n2 wanted 3 0\n3 wanted 3 0\n4 stored 3 0\n5 hit 3 0\n\
+                     6 passed 4 0\n7 passed 4 0\n",
+            ..case("looks", looks)
         },
         case("every unknown form", unknown_forms()),
         case("mixed, a short end", some.clone()),

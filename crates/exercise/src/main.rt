@@ -192,8 +192,17 @@ fn reads(table: &mut [u8], gauge: Gauge, lines: &mut [u8], picture: &[u8]) -> Ga
 fn updates(table: &mut [u8], gauge: Gauge, lines: &[u8]) -> Gauge {
     let one = update(table, gauge, lines, 7, 1);
     let two = update(table, one, lines, 99, 1);
-    let three = read(table, two, lines, 5, 0);
+    let three = read(table, two, lines, 5, 65536);
     update(table, three, lines, 5, 65536)
+}
+
+// 5 is on a filled line, 7 on an empty one, 9 on none; 42 is untracked. An update of weight 0 is no look.
+fn looks(table: &mut [u8], gauge: Gauge, lines: &[u8]) -> Gauge {
+    let one = read(table, gauge, lines, 5, 0);
+    let two = read(table, one, lines, 7, 0);
+    let three = read(table, two, lines, 9, 0);
+    let four = read(table, three, lines, 42, 0);
+    update(table, four, lines, 5, 0)
 }
 
 // One aging, and one that is refused, since lines of one byte are not whole. Then 9 leaves for 11, which takes 7's line.
@@ -345,7 +354,8 @@ fn main() {
     let fresh = start(&mut table, dirty, &lines);
     let warm = reads(&mut table, fresh, &mut lines, &picture);
     let cool = updates(&mut table, warm, &lines);
-    let gauge = agings(&mut table, cool, &lines);
+    let looked = looks(&mut table, cool, &lines);
+    let gauge = agings(&mut table, looked, &lines);
     shown(&table, gauge, &lines);
     let mut other = [8u8; 64];
     other[0] = 2;
