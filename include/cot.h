@@ -17,8 +17,8 @@
  * whole, to each call, and let only the library write to them. The host may read them at any time
  * between calls.
  *
- * Use the line of a hit before the next call: any later read, update or fill may give the line to
- * another key or put another picture into it.
+ * Use the line of a hit before the next call: any later read of a weight over 0, update or fill may
+ * give the line to another key or put another picture into it.
  *
  * A picture that was fetched before an update of its key is the old one. cot_fill cannot tell: it
  * stores what it is lent, and later reads answer hit with it. So after an update drop what was
@@ -56,7 +56,7 @@ extern "C" {
  * weight or picture; order; no line; filled. */
 #define COT_REFUSED_SIZES 1   /* table not whole records, K outside 1 to 1,024, lines not whole,
                                  C not under K, gauge bytes not 16, or sum bytes not 8 */
-#define COT_REFUSED_WEIGHT 2  /* read or update: weight 0 or over 65,535 */
+#define COT_REFUSED_WEIGHT 2  /* read or update: weight over 65,535; update: weight 0 */
 #define COT_REFUSED_ORDER 3   /* the table is not in order */
 #define COT_REFUSED_PICTURE 4 /* fill: the picture has not 64 bytes */
 #define COT_REFUSED_NO_LINE 5 /* fill: the key is not tracked, or has no line */
@@ -79,6 +79,8 @@ uint64_t cot_fresh(uint8_t *table, size_t table_len, uint8_t *gauge, size_t gaug
                    const uint8_t *lines, size_t lines_len);
 
 /* Asks for the picture of a key. The weight is the number of pieces waiting.
+ * A weight of 0 is a look, say for a display: it tells how the key stands, COT_PASSED if it is not
+ * tracked, and changes no byte of what is lent. It counts for nothing.
  * Returns COT_HIT + n, COT_WANTED + n or COT_PASSED; refused: sizes, weight, order. */
 uint64_t cot_read(uint8_t *table, size_t table_len, uint8_t *gauge, size_t gauge_len,
                   const uint8_t *lines, size_t lines_len, uint64_t key, uint64_t weight);
