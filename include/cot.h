@@ -24,8 +24,9 @@
  * stores what it is lent, and later reads answer hit with it. So after an update drop what was
  * fetched for that key before it, and fetch again when a read answers wanted.
  *
- * Calls on the same buffers must not run at the same time: the library takes no lock. Calls on
- * different buffers may. A call takes less than 2 KiB of stack, and returns.
+ * Calls on the same buffers must not run at the same time, looks (see cot_read) included: the
+ * library takes no lock. Calls on different buffers may. A call takes less than 2 KiB of stack, and
+ * returns.
  *
  * docs/FORMATS.md has the fields of a record and when a table is in order; a host needs neither.
  *

@@ -1,7 +1,7 @@
 #!/bin/sh
 # Runs the program replay on further journals and compares all that it prints: empty, short ends,
-# unknown forms, odd pieces through a pipe, one long enough that the total passes its limit, a
-# million records. Then closes its output, and it must end. Each run has a time limit.
+# looks, unknown forms, odd pieces through a pipe, one long enough that the total passes its limit,
+# a million records. Then closes its output, and it must end. Each run has a time limit.
 set -eu
 cd "$(dirname "$0")/.."
 

@@ -687,7 +687,7 @@ fn some_slack(random: &mut Random) -> u64 {
 }
 
 /// A call that fits the records: of a key in the table or not, with a weight that often makes two
-/// heats equal or nearly so. One read in eight is a look.
+/// heats equal or nearly so. About one read in seven is a look.
 fn some_call(records: &[Record], ceiling: u64, keys: &[u64], random: &mut Random) -> Call {
     let key = match random.below(20) {
         0 => 0,

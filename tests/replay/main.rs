@@ -1,5 +1,5 @@
 //! Runs the program `replay` on journals made here, and compares everything that it prints with what
-//! document 01's rules say (the model of tests/compare). Every run has a time limit. Argument: the
+//! the documents' rules say (the model of tests/compare). Every run has a time limit. Argument: the
 //! program's path. Stops at the first failure.
 
 #[allow(dead_code)]

@@ -77,7 +77,7 @@ pub fn fresh(table: &mut [u8], gauge: Gauge, lines: &[u8]) -> Started
 
 // ---- Read, update and age
 
-// Counts weight pieces of a class, and answers where its picture is.
+// Counts weight pieces of a class, and answers where its picture is. A weight of 0 is a look: it changes nothing.
 pub fn read(table: &mut [u8], gauge: Gauge, lines: &[u8], key: u64, weight: u64) -> Reply
     ensures { λ r. ⌜ (left r (now (table .exit)) (now (lines .entry)) ≡ readOutcome (lent (now (table .entry)) gauge (now (lines .entry))) key weight)
         × (numberOf (r .answer) ≡ readNumber (lent (now (table .entry)) gauge (now (lines .entry))) key weight) ⌝ }

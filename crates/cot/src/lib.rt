@@ -82,7 +82,7 @@ pub extern "C" fn cot_fresh(table: &mut [u8], gauge: &mut [u8], lines: &[u8]) ->
     completion_number(answer)
 }
 
-// Counts weight pieces of a class, and answers where its picture is.
+// Counts weight pieces of a class, and answers where its picture is. A weight of 0 is a look: it changes nothing.
 #[no_mangle]
 pub extern "C" fn cot_read(
     table: &mut [u8],

@@ -132,7 +132,7 @@ pub any-refused : {m end : Memory} {hs : List Heard} (c : Call) (l : Lent) → i
     Follows m (heard c true ∷ hs) end
 any-refused c l e rest = elsewhere c l e rest
 
--- Memory that is not clear, with two lines; a call that other memory refuses, for its sizes; a host's read of the largest key and
+-- Memory that is not clear, with two lines; a look that other memory refuses, for its sizes; a host's read of the largest key and
 -- weight; a fill that the list's own memory refuses, one that it accepts, a host's look that finds it, and an update.
 abbrev dirty : ℕ → Memory
 dirty lines = threeRecords (numbers 1 2 3 9) (numbers 1 2 3 9) (numbers 1 2 3 9) 9 99 lines
@@ -145,7 +145,7 @@ cleared = freshOutcome (dirty 2) .after
 
 abbrev wide-heard : List Heard
 wide-heard =
-    heard (read 5 1) true
+    heard (read 5 0) true
     ∷ heard (read largest 65535) false
     ∷ heard (fill 5 (samplePicture 1)) true
     ∷ heard (fill largest (samplePicture 1)) false
@@ -162,7 +162,7 @@ wide-end = callOutcome (update largest 65535) wide-filled .after
 wide-list : Follows cleared wide-heard wide-end
 unfolding computing
 wide-list =
-    elsewhere (read 5 1) (rattle (dirty 3)) refl
+    elsewhere (read 5 0) (rattle (dirty 3)) refl
     (own (read largest 65535) (host (hostLent (cleared .table) (replicate 16 0) (cleared .lines))) refl (omega arith)
     (own (fill 5 (samplePicture 1)) (rattle _) refl (omega arith)
     (own (fill largest (samplePicture 1)) (rattle _) refl (omega arith)

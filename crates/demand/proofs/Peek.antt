@@ -2,10 +2,9 @@
 use Prim.Native.Nat.{ℕ}
 use mathlib.Core.Path.{_≡_, refl, ap}
 use mathlib.Core.Bool.{Bool, true, false}
-use mathlib.Core.List.{List, _∷_}
 use Rattle.rules.specs.Replay.{Truth, readTruth}
 use Rattle.rules.proofs.Peek.{peek-leaves, host-peek-leaves}
-use Rattle.demand.specs.List.{read, callOutcome, Lent, rattle, host, made, Heard, heard, acceptedTruth, heardTruth, replay}
+use Rattle.demand.specs.List.{read, callOutcome, Lent, rattle, host, made, heard, acceptedTruth, heardTruth}
 use Rattle.demand.proofs.Refusals.{HoldsBytes}
 
 -- | and changes nothing
@@ -15,7 +14,7 @@ peek-leaves-lent key (rattle m) bytes = ap rattle (peek-leaves m key)
 peek-leaves-lent key (host h) bytes = ap host (host-peek-leaves h key bytes)
 
 -- | a look counts for nothing in the replay
-pub peek-counts-nothing : (t : Truth) (key : ℕ) (refused : Bool) (hs : List Heard) → replay t (heard (read key 0) refused ∷ hs) ≡ replay t hs
-unfolding replay heardTruth acceptedTruth readTruth
-peek-counts-nothing t key true hs = refl
-peek-counts-nothing t key false hs = refl
+pub peek-counts-nothing : (t : Truth) (key : ℕ) (refused : Bool) → heardTruth t (heard (read key 0) refused) ≡ t
+unfolding heardTruth acceptedTruth readTruth
+peek-counts-nothing t key true = refl
+peek-counts-nothing t key false = refl

@@ -12,7 +12,7 @@ use Rattle.rules.specs.Calls.{HostMemory, held, hosted, ageOutcome, readOutcome
 use Rattle.rules.specs.Replay.{Truth, ageTruth, readTruth, updateTruth, fillTruth}
 
 -- ---- a call
--- with all that it is given besides the memory
+-- with all that it is given besides the memory; a read of weight 0 is a look
 pub data Call : Type 0 where
   read : (key weight : ℕ) → Call
   update : (key weight : ℕ) → Call

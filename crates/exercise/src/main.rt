@@ -1,5 +1,6 @@
 // Runs what a Rattle caller can call and nothing else here runs, and prints what each call gives: fresh on memory that is not zero,
-// show, the levelled sum, the calls that are lent the gauge by `&mut`, the journal's reader, and a run whose rows have no room.
+// show, the levelled sum, the calls that are lent the gauge by `&mut`, looks among them, the journal's reader, and a run whose rows
+// have no room.
 use journal::read_at;
 use lending::first_two;
 use libc::STDOUT_FILENO;

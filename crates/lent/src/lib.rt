@@ -8,7 +8,7 @@ ghost use Rattle.rules.specs.Numbers.{readNumber, updateNumber, ageNumber};
 use rules::Answer;
 use rules::Gauge;
 
-// Counts weight pieces of a class, and answers where its picture is.
+// Counts weight pieces of a class, and answers where its picture is. A weight of 0 is a look: it changes nothing.
 pub fn read(table: &mut [u8], gauge: &mut Gauge, lines: &[u8], key: u64, weight: u64) -> Answer
     ensures { λ a. ⌜ (outcome a (lent (now (table .exit)) (now (gauge .exit)) (now (lines .entry))) ≡ readOutcome (lent (now (table .entry)) (now (gauge .entry)) (now (lines .entry))) key weight)
         × (numberOf a ≡ readNumber (lent (now (table .entry)) (now (gauge .entry)) (now (lines .entry))) key weight) ⌝ }

@@ -297,9 +297,9 @@ module _ (key w : ℕ) (light : w ≤ mostWeight) (fits : key < 2 ^ 64) where
       go false = counted-answers m h
 
   -- a look
-  peek-answers : (m : Memory) → Lines m → Answers (lineTotal m) key (peekSteps m key)
+  peeked-answers : (m : Memory) → Lines m → Answers (lineTotal m) key (peekSteps m key)
   unfolding peekSteps peekAnswer numberOf standing
-  peek-answers m h =
+  peeked-answers m h =
       let told = go (keyRecord key (places m) (size m)) refl in
       record { number = told .0; names = told .1 }
     where
@@ -315,7 +315,7 @@ module _ (key w : ℕ) (light : w ≤ mostWeight) (fits : key < 2 ^ 64) where
   steps-answers m h = go (eqb w 0)
     where
       go : (b : Bool) → Answers (lineTotal m) key (if b then peekSteps m key else warmSteps m key w)
-      go true = peek-answers m (h .lines)
+      go true = peeked-answers m (h .lines)
       go false = warm-answers m h
 
 accepted-answers : (m : Memory) (key w : ℕ) → IsBytes (m .table) → key < 2 ^ 64 → readVerdict m w ≡ Accepted →

@@ -1,11 +1,11 @@
--- A look, which is a read of weight 0: that it leaves all as it was, and answers hit where a show shows the line. Of every memory, in
--- order or not: it is refused where a show returns the stand-in. Assumes nothing.
-use Prim.Native.Nat.{ℕ, _%_}
+-- A look, which is a read of weight 0 and of no other: that it is refused where cause 1 or 3 holds and nowhere else, leaves all as it
+-- was, and answers hit where a show shows the line. Of every memory, in order or not. Assumes nothing.
+use Prim.Native.Nat.{ℕ, _<_, _%_}
 use mathlib.Core.Path.{_≡_, refl}
 use mathlib.Core.Bool.{Bool, true, false, _&&_}
-use mathlib.Core.List.{[], _∷_}
 use mathlib.Core.Option.{Option, none, some}
 use native.Mathlib.Omega.{arith}
+use borrow.Author.Tests.{ne-eqb}
 use lib.Dec.{eqb}
 use Rattle.rules.specs.declared.Record.{Record}
 use Rattle.rules.specs.declared.Verdict.{Verdict}
@@ -17,16 +17,28 @@ use Rattle.rules.specs.declared.Answer.{Answer}
 use Rattle.rules.specs.declared.Answer.the-variants.{Passed, Hit, Wanted}
 use Rattle.rules.specs.Pass.{if_then_else_}
 use Rattle.rules.specs.Table.{Memory, isLined, isFilled, lineOf, lookedUp, lookup, keyRecord, places, size}
-use Rattle.rules.specs.Steps.{Outcome, outcome, readAnswer, peekAnswer, peekSteps, readSteps, shownLine}
-use Rattle.rules.specs.Calls.{verdict, unless, leaving, plainVerdict, readWeightGood, readVerdict, readOutcome, showLine, HostMemory, held, stored, gaugeTest, hosted}
+use Rattle.rules.specs.Steps.{readAnswer, warmSteps, peekAnswer, peekSteps, readSteps, shownLine}
+use Rattle.rules.specs.Calls.{verdict, unless, leaving, plainVerdict, readWeightGood, readVerdict, readOutcome, showLine, HostMemory, held, stored, hosted}
+use Rattle.rules.specs.Replay.{Truth, warmTruth, readTruth}
 use Rattle.rules.proofs.Words.{IsBytes}
 use Rattle.rules.proofs.Places.{gauge-kept}
+use Rattle.rules.proofs.Refusals.{hosted-keeps}
 
 -- | A read of weight 0 is now accepted.
 -- where the sizes and the order are good
 pub peek-verdict : (m : Memory) → readVerdict m 0 ≡ plainVerdict m
 unfolding readVerdict readWeightGood plainVerdict verdict
 peek-verdict m = refl
+
+-- | Read of a key with weight w, .. 1 to 65,535
+-- any such read takes document 01's steps, and counts in the replay
+pub read-warms : (m : Memory) (key w : ℕ) → 0 < w → readSteps m key w ≡ warmSteps m key w
+unfolding readSteps
+read-warms m key w weighs = rw (ne-eqb w 0 (λ e. omega arith))
+
+pub read-counts : (t : Truth) (key w : ℕ) → 0 < w → readTruth t key w ≡ warmTruth t key w
+unfolding readTruth
+read-counts t key w weighs = rw (ne-eqb w 0 (λ e. omega arith))
 
 -- | and changes nothing
 pub peek-leaves : (m : Memory) (key : ℕ) → readOutcome m key 0 .after ≡ m
@@ -39,15 +51,9 @@ peek-leaves m key = go (readVerdict m 0)
 
 -- a C host's gauge bytes too
 pub host-peek-leaves : (h : HostMemory) (key : ℕ) → IsBytes (h .gauge) → hosted (λ m. readOutcome m key 0) h .after ≡ h
-unfolding hosted unless stored held
-host-peek-leaves h key bytes = go (verdict (gaugeTest h ∷ []))
-  where
-    looked : Outcome Answer Memory
-    looked = readOutcome (held h) key 0
-
-    go : (v : Verdict) → unless v (leaving h) (outcome (looked .answer) (stored h (looked .after))) .after ≡ h
-    go Accepted = rw (peek-leaves (held h) key, gauge-kept (h .gauge) bytes)
-    go (Verdict.Refused n) = refl
+unfolding stored held
+host-peek-leaves h key bytes =
+    hosted-keeps (λ m. readOutcome m key 0) h (λ (s : HostMemory). s) (λ _. peek-leaves (held h) key) (λ _. rw (gauge-kept (h .gauge) bytes))
 
 -- ---- an answer is hit n exactly where line n is shown
 abbrev Agree : ℕ → Answer → Option ℕ → Type 0

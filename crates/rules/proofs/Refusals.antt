@@ -160,18 +160,25 @@ module _ (call : Memory → Outcome Answer Memory) (h : HostMemory) where
   abbrev hostGiven : Outcome Answer HostMemory
   hostGiven = outcome (call (held h) .answer) (stored h (call (held h) .after))
 
-  -- what is seen of a host's memory stays where the call is refused, if putting the gauge back as it was read leaves it
+  -- what is seen of a host's memory stays where the call leaves what it holds, if putting the gauge back as it was read leaves it
+  pub hosted-keeps : {A : Type 0} (seen : HostMemory → A) →
+      (verdict (gaugeTest h ∷ []) ≡ Accepted → call (held h) .after ≡ held h) →
+      (length (h .gauge) ≡ gaugeSize → seen (stored h (held h)) ≡ seen h) →
+      seen (hosted call h .after) ≡ seen h
+  unfolding hosted gaugeTest unless
+  hosted-keeps seen keeps put = go (verdict (gaugeTest h ∷ [])) refl
+    where
+      go : (v : Verdict) → verdict (gaugeTest h ∷ []) ≡ v → seen (unless v (leaving h) hostGiven .after) ≡ seen h
+      go Accepted v = rw (keeps v) (put (eqb-true (length (h .gauge)) gaugeSize (first-passes _ _ v .0)))
+      go (Verdict.Refused n) v = refl
+
+  -- and so where it is refused
   pub hosted-leaves : {A : Type 0} (seen : HostMemory → A) →
       (isRefused (call (held h) .answer) ≡ true → call (held h) .after ≡ held h) →
       (length (h .gauge) ≡ gaugeSize → seen (stored h (held h)) ≡ seen h) →
       isRefused (hosted call h .answer) ≡ true → seen (hosted call h .after) ≡ seen h
-  unfolding hosted gaugeTest unless
-  hosted-leaves seen leaves put = go (verdict (gaugeTest h ∷ [])) refl
-    where
-      go : (v : Verdict) → verdict (gaugeTest h ∷ []) ≡ v → isRefused (unless v (leaving h) hostGiven .answer) ≡ true →
-          seen (unless v (leaving h) hostGiven .after) ≡ seen h
-      go Accepted v e = rw (leaves e) (put (eqb-true (length (h .gauge)) gaugeSize (first-passes _ _ v .0)))
-      go (Verdict.Refused n) v e = refl
+  unfolding hosted unless
+  hosted-leaves seen leaves put e = hosted-keeps seen (λ v. leaves (rw v at e)) put
 
   pub hosted-told : Told (call (held h) .answer) → Told (hosted call h .answer)
   unfolding hosted gaugeTest

@@ -16,7 +16,7 @@ use Rattle.rules.specs.declared.Entry.{Entry}
 abbrev pub wrongSizes : ℕ
 wrongSizes = 1
 
--- | read or update weight 0 or over 65,535
+-- | read or update weight 0 or over 65,535 (a read's 0 no more: document 02)
 abbrev pub wrongWeight : ℕ
 wrongWeight = 2
 

@@ -47,7 +47,7 @@ pub record OfSizes (m : Memory) (k c : ℕ) : Type 0 where
 abbrev pub mostWeight : ℕ
 mostWeight = 65535
 
--- | A read of weight 0 is now accepted. (Document 02)
+-- | read .. weight .. over 65,535. .. A read of weight 0 is now accepted. (Document 02)
 unfoldable pub readWeightGood : ℕ → Bool
 readWeightGood w = leb w mostWeight
 

@@ -102,6 +102,7 @@ readCounted m key w =
     (freeRecord (places m) (size m))
     (victim (places m) (size m))
 
+-- a read with a weight of 1 or more: steps 1 to 6
 unfoldable pub warmSteps : Memory → ℕ → ℕ → Outcome Answer Memory
 warmSteps m key w = readCounted (grown w (decayFor w m)) key w
 
@@ -115,6 +116,7 @@ peekAnswer (At i r) = readAnswer r
 unfoldable pub peekSteps : Memory → ℕ → Outcome Answer Memory
 peekSteps m key = outcome (peekAnswer (keyRecord key (places m) (size m))) m
 
+-- | A read of weight 0 is now accepted. (Any other read is document 01's.)
 unfoldable pub readSteps : Memory → ℕ → ℕ → Outcome Answer Memory
 readSteps m key w = if eqb w 0 then peekSteps m key else warmSteps m key w
 

@@ -1,4 +1,4 @@
-// Whether a call is refused, and with which number: the tests of document 01, in its order.
+// Whether a call is refused, and with which number: the tests of document 01, in its order, as document 02 has them.
 ghost use mathlib.Core.Path.{_≡_};
 ghost use mathlib.Core.List.{[], _∷_};
 ghost use Prim.Native.Nat.{_≤_};
