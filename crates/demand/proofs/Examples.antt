@@ -20,10 +20,11 @@ use Rattle.rules.specs.Sample.{numbers, threeRecords, samplePicture, hostStart}
 use Rattle.rules.proofs.Words.{IsBytes}
 use Rattle.rules.proofs.Changes.{at-same}
 use Rattle.rules.proofs.Answered.{host-answered-line}
-use Rattle.demand.specs.List.{Call, read, update, fill, callOutcome, keyOf, Lent, memoryOf, made, Heard, heard, rattle, host, Follows, nothing, own, elsewhere, replay}
+use Rattle.demand.specs.List.{Call, read, update, fill, callOutcome, keyOf, Lent, memoryOf, made, Heard, heard, rattle, host, Follows, nothing, own, elsewhere, heardTruth, replay}
 use Rattle.demand.specs.Demand3.{Demand3, LevelledBound, StaysInOrder, HeavyHittersTracked}
 use Rattle.demand.specs.Sample.{sampleCalls}
 use Rattle.demand.proofs.Computing.{computing}
+use Rattle.demand.proofs.Peek.{peek-leaves-lent, peek-counts-nothing}
 use Rattle.demand.proofs.EveryList.{demand3, from-host-fresh}
 
 -- ---- one clause missed
@@ -132,6 +133,19 @@ pub any-refused : {m end : Memory} {hs : List Heard} (c : Call) (l : Lent) → i
     Follows m (heard c true ∷ hs) end
 any-refused c l e rest = elsewhere c l e rest
 
+-- a look, by anybody, refused or not
+pub any-look : (t : Truth) (key : ℕ) (m : Memory) (h : HostMemory) → IsBytes (h .gauge) →
+    (made (read key 0) (rattle m) .after ≡ rattle m)
+    × (made (read key 0) (host h) .after ≡ host h)
+    × (heardTruth t (heard (read key 0) true) ≡ t)
+    × (heardTruth t (heard (read key 0) false) ≡ t)
+any-look t key m h bytes = (
+  peek-leaves-lent key (rattle m) tt,
+  peek-leaves-lent key (host h) bytes,
+  peek-counts-nothing t key true,
+  peek-counts-nothing t key false,
+)
+
 -- Memory that is not clear, with two lines; a look that other memory refuses, for its sizes; a host's read of the largest key and
 -- weight; a fill that the list's own memory refuses, one that it accepts, a host's look that finds it, and an update.
 abbrev dirty : ℕ → Memory
@@ -190,7 +204,7 @@ pub thirteen-numbers : told sampleCalls (hostStart 16)
 unfolding computing
 thirteen-numbers = refl
 
--- ---- the line that a host computes, of the largest key and weight
-pub largest-line : (h : HostMemory) → IsBytes (h .table) →
-    TellsLine (lineTotal (held h)) (hosted (λ m. readOutcome m largest 65535) h .answer) (exported (λ m. readOutcome m largest 65535) h .answer)
-largest-line h bytes = host-answered-line h largest 65535 bytes (omega arith)
+-- ---- the line that a host computes, of the largest key and any weight, 0 too
+pub largest-line : (h : HostMemory) (w : ℕ) → IsBytes (h .table) →
+    TellsLine (lineTotal (held h)) (hosted (λ m. readOutcome m largest w) h .answer) (exported (λ m. readOutcome m largest w) h .answer)
+largest-line h w bytes = host-answered-line h largest w bytes (omega arith)

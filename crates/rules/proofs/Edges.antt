@@ -2,14 +2,14 @@
 use Prim.Native.Nat.{ℕ, _*_}
 use mathlib.Core.Path.{_≡_, refl}
 use mathlib.Core.Bool.{true, false}
-use mathlib.Core.List.{[]}
+use mathlib.Core.List.{[], _∷_}
 use lib.ListN.{replicate}
 use Rattle.rules.specs.declared.Answer.the-variants.{Refused}
 use Rattle.rules.specs.declared.Verdict.{Verdict}
 use Rattle.rules.specs.declared.Verdict.the-variants.{Accepted}
 use Rattle.rules.specs.Bytes.{recordSize, recordCount, lineSize, lineCount, putRecord}
 use Rattle.rules.specs.Table.{Memory}
-use Rattle.rules.specs.Calls.{lent, sizesGood, plainVerdict, readVerdict, updateVerdict, fillVerdict, readOutcome, fillOutcome}
+use Rattle.rules.specs.Calls.{lent, sizesGood, updateWeightGood, must, verdict, sizesTest, plainVerdict, readVerdict, updateVerdict, fillVerdict, readOutcome, fillOutcome}
 use Rattle.rules.proofs.Computing.{computing}
 
 -- a fresh memory of k records and c lines, with a total
@@ -65,9 +65,10 @@ unfolding computing
 update-more-weight-refused = refl
 
 -- | Updates of weight 0 are still refused with 2. (Document 02)
-pub update-no-weight-refused : updateVerdict (stated 4) 0 ≡ Verdict.Refused 2
-unfolding computing
-update-no-weight-refused = refl
+-- whatever they are lent, but for wrong sizes, which come first
+pub update-of-nothing : (m : Memory) → updateVerdict m 0 ≡ verdict (sizesTest m ∷ must false 2 ∷ [])
+unfolding updateVerdict updateWeightGood verdict
+update-of-nothing m = refl
 
 -- ---- | Total 4,294,967,294 and a read of 1: no aging; one more such read ages first and leaves 2,147,483,648.
 abbrev after-one : Memory
@@ -94,10 +95,6 @@ state-4-not = refl
 pub sizes-before-weight : readVerdict (cleared 1 1 0) 65536 ≡ Verdict.Refused 1
 unfolding computing
 sizes-before-weight = refl
-
-pub sizes-before-update-weight : updateVerdict (cleared 1 1 0) 0 ≡ Verdict.Refused 1
-unfolding computing
-sizes-before-update-weight = refl
 
 pub sizes-before-picture : fillVerdict (cleared 1 1 0) [] ≡ Verdict.Refused 1
 unfolding computing

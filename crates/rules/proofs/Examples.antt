@@ -18,6 +18,7 @@ use Rattle.rules.specs.Numbers.{NamesLine, TellsLine, keySaid, formGood,
 use Rattle.rules.specs.Journal.{decimal, printed, printedAll, journalRun, entryAt, decoded, storedWord, passedWord, hitWord, wantedWord}
 use Rattle.rules.specs.Sample.{sampleEntry, sampleJournal, sampleStart, sampleEnd, hostStart, row, numbers, threeRecords}
 use Rattle.rules.proofs.Computing.{computing}
+use Rattle.rules.proofs.Peek.{peek-shows}
 
 -- ---- the sample
 -- what its journal leaves, byte for byte
@@ -53,6 +54,13 @@ second-line-hit = refl
 pub shows-filled : (showLine two-lines 8 ≡ some 1) × (showLine two-lines 7 ≡ none)
 unfolding computing
 shows-filled = (refl, refl)
+
+-- and a look hits there alone
+pub looks-as-shown : (readOutcome two-lines 8 0 .answer ≡ Hit 1) × (¬ (readOutcome two-lines 7 0 .answer ≡ Hit 0))
+looks-as-shown = (
+  peek-shows two-lines 8 1 .1 (shows-filled .0),
+  λ e. let shown = peek-shows two-lines 7 0 .0 e in let hidden = shows-filled .1 in let z : _≡_ {A = ℕ} 0 1 = cc in omega arith,
+)
 
 -- what a lookup says of the second: 6, its place and its line
 pub second-line-said : keySaid (keyRecord 8 (places two-lines) (size two-lines)) ≡ said (some 6) (1 ∷ 1 ∷ [])
@@ -142,10 +150,22 @@ pub refused-rows : printedAll (journalRun sampleStart (replicate 159 0) .rows)
 unfolding computing printedAll printed
 refused-rows = refl
 
--- looks: at an empty line, at a filled one, of an untracked class
+-- looks: of an untracked class while the line is unused, at an empty line, at a filled one, of an untracked class
 pub looks-printed :
-    journalRun sampleStart (sampleEntry 1 5 3 0 ++ sampleEntry 1 5 0 0 ++ sampleEntry 3 5 0 105 ++ sampleEntry 1 5 0 0 ++ sampleEntry 1 9 0 0) .rows
-    ≡ row 1 wantedWord 3 0 ∷ row 2 wantedWord 3 0 ∷ row 3 storedWord 3 0 ∷ row 4 hitWord 3 0 ∷ row 5 passedWord 3 0 ∷ []
+    journalRun sampleStart
+    (sampleEntry 1 5 0 0
+    ++ sampleEntry 1 5 3 0
+    ++ sampleEntry 1 5 0 0
+    ++ sampleEntry 3 5 0 105
+    ++ sampleEntry 1 5 0 0
+    ++ sampleEntry 1 9 0 0) .rows
+    ≡ row 1 passedWord 0 0
+    ∷ row 2 wantedWord 3 0
+    ∷ row 3 wantedWord 3 0
+    ∷ row 4 storedWord 3 0
+    ∷ row 5 hitWord 3 0
+    ∷ row 6 passedWord 3 0
+    ∷ []
 unfolding computing
 looks-printed = refl
 

@@ -55,6 +55,12 @@ unfolding stored held
 host-peek-leaves h key bytes =
     hosted-keeps (λ m. readOutcome m key 0) h (λ (s : HostMemory). s) (λ _. peek-leaves (held h) key) (λ _. rw (gauge-kept (h .gauge) bytes))
 
+-- | an untracked key being passed
+pub peek-untracked : (m : Memory) (key : ℕ) → plainVerdict m ≡ Accepted → keyRecord key (places m) (size m) ≡ Nowhere →
+    readOutcome m key 0 .answer ≡ Passed
+unfolding readOutcome readSteps peekSteps peekAnswer unless
+peek-untracked m key good missing = rw (peek-verdict m, good, missing)
+
 -- ---- an answer is hit n exactly where line n is shown
 abbrev Agree : ℕ → Answer → Option ℕ → Type 0
 Agree n a shown = (a ≡ Hit n → shown ≡ some n) × (shown ≡ some n → a ≡ Hit n)
