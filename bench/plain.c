@@ -189,6 +189,13 @@ static uint64_t standing(uint64_t state)
     return (is_filled(state) ? HIT : WANTED) + line_of(state);
 }
 
+static uint64_t look(uint8_t *table, size_t table_len, uint64_t key)
+{
+    const uint8_t *r = find(table, table_len, key);
+
+    return standing(r ? get(r + STATE) : FREE);
+}
+
 uint64_t plain_read(uint8_t *table, size_t table_len,
                     uint8_t *gauge, size_t gauge_len,
                     const uint8_t *lines, size_t lines_len,
@@ -205,10 +212,8 @@ uint64_t plain_read(uint8_t *table, size_t table_len,
     if (!in_order(table, table_len, gauge, lines_len))
         return BAD_ORDER;
 
-    if (weight == 0) { /* a look */
-        r = find(table, table_len, key);
-        return standing(r ? get(r + STATE) : FREE);
-    }
+    if (weight == 0)
+        return look(table, table_len, key);
     if (get(gauge + TOTAL) + weight > MAX_TOTAL)
         halve(table, table_len, gauge);
     put(gauge + TOTAL, get(gauge + TOTAL) + weight);
