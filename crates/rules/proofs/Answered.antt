@@ -33,6 +33,7 @@ use Rattle.rules.proofs.InOrder.{in-order-says}
 use Rattle.rules.proofs.CallsHold.{at-is, on-line-is, lines-few, places-hand, size-hand}
 use Rattle.rules.proofs.ReadHolds.{heated-is, new-is}
 use Rattle.rules.proofs.Verdicts.{read-accepted}
+use Rattle.rules.proofs.Peek.{read-either}
 use Rattle.rules.proofs.Refusals.{read-told, hosted-told}
 
 -- ---- what a memory must have
@@ -311,12 +312,7 @@ module _ (key w : ℕ) (light : w ≤ mostWeight) (fits : key < 2 ^ 64) where
           (stands i r, answer-names (lineTotal m) r (h .few) (rw (found .is) (h .state-most i (found .inside))))
 
   steps-answers : (m : Memory) → Fit m → Answers (lineTotal m) key (readSteps m key w)
-  unfolding readSteps
-  steps-answers m h = go (eqb w 0)
-    where
-      go : (b : Bool) → Answers (lineTotal m) key (if b then peekSteps m key else warmSteps m key w)
-      go true = peeked-answers m (h .lines)
-      go false = warm-answers m h
+  steps-answers m h = read-either m key w (Answers (lineTotal m) key) (λ _. peeked-answers m (h .lines)) (λ _. warm-answers m h)
 
 accepted-answers : (m : Memory) (key w : ℕ) → IsBytes (m .table) → key < 2 ^ 64 → readVerdict m w ≡ Accepted →
     Answers (lineTotal m) key (readSteps m key w)

@@ -18,13 +18,13 @@ pub mod Memories
 pub mod Finds
 pub mod InOrder
 pub mod CallsHold
+pub mod Peek
 pub mod ReadHolds
 pub mod UpdateHolds
 pub mod FillHolds
 pub mod Verdicts
 pub mod FreshHolds
 pub mod Refusals
-pub mod Peek
 pub mod Numbers
 pub mod HostCalls
 pub mod Answered

@@ -4,6 +4,7 @@ use Prim.Native.Nat.{ℕ, _<_, _%_}
 use mathlib.Core.Path.{_≡_, refl}
 use mathlib.Core.Bool.{Bool, true, false, _&&_}
 use mathlib.Core.Option.{Option, none, some}
+use native.Mathlib.Decide.{ℕ-discrete}
 use native.Mathlib.Omega.{arith}
 use borrow.Author.Tests.{ne-eqb}
 use lib.Dec.{eqb}
@@ -17,12 +18,9 @@ use Rattle.rules.specs.declared.Answer.{Answer}
 use Rattle.rules.specs.declared.Answer.the-variants.{Passed, Hit, Wanted}
 use Rattle.rules.specs.Pass.{if_then_else_}
 use Rattle.rules.specs.Table.{Memory, isLined, isFilled, lineOf, lookedUp, lookup, keyRecord, places, size}
-use Rattle.rules.specs.Steps.{readAnswer, warmSteps, peekAnswer, peekSteps, readSteps, shownLine}
-use Rattle.rules.specs.Calls.{verdict, unless, leaving, plainVerdict, readWeightGood, readVerdict, readOutcome, showLine, HostMemory, held, stored, hosted}
+use Rattle.rules.specs.Steps.{Outcome, readAnswer, warmSteps, peekAnswer, peekSteps, readSteps, shownLine}
+use Rattle.rules.specs.Calls.{verdict, unless, leaving, plainVerdict, readWeightGood, readVerdict, readOutcome, showLine}
 use Rattle.rules.specs.Replay.{Truth, warmTruth, readTruth}
-use Rattle.rules.proofs.Words.{IsBytes}
-use Rattle.rules.proofs.Places.{gauge-kept}
-use Rattle.rules.proofs.Refusals.{hosted-keeps}
 
 -- | A read of weight 0 is now accepted.
 -- where the sizes and the order are good
@@ -40,6 +38,16 @@ pub read-counts : (t : Truth) (key w : ℕ) → 0 < w → readTruth t key w ≡ 
 unfolding readTruth
 read-counts t key w weighs = rw (ne-eqb w 0 (λ e. omega arith))
 
+-- so a law of every read is one of looks and one of the others
+pub read-either : (m : Memory) (key w : ℕ) (P : Outcome Answer Memory → Type 0) →
+    (w ≡ 0 → P (peekSteps m key)) → (0 < w → P (warmSteps m key w)) → P (readSteps m key w)
+unfolding readSteps
+read-either m key w P look warm =
+    elim (ℕ-discrete w 0) [
+      | yes e ↦ rw e (look e)
+      | no e ↦ let weighs : 0 < w = omega arith in rw (read-warms m key w weighs) (warm weighs)
+    ]
+
 -- | and changes nothing
 pub peek-leaves : (m : Memory) (key : ℕ) → readOutcome m key 0 .after ≡ m
 unfolding readOutcome readSteps peekSteps unless
@@ -48,12 +56,6 @@ peek-leaves m key = go (readVerdict m 0)
     go : (v : Verdict) → unless v (leaving m) (peekSteps m key) .after ≡ m
     go Accepted = refl
     go (Verdict.Refused n) = refl
-
--- a C host's gauge bytes too
-pub host-peek-leaves : (h : HostMemory) (key : ℕ) → IsBytes (h .gauge) → hosted (λ m. readOutcome m key 0) h .after ≡ h
-unfolding stored held
-host-peek-leaves h key bytes =
-    hosted-keeps (λ m. readOutcome m key 0) h (λ (s : HostMemory). s) (λ _. peek-leaves (held h) key) (λ _. rw (gauge-kept (h .gauge) bytes))
 
 -- | an untracked key being passed
 pub peek-untracked : (m : Memory) (key : ℕ) → plainVerdict m ≡ Accepted → keyRecord key (places m) (size m) ≡ Nowhere →

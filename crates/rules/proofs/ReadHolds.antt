@@ -12,9 +12,10 @@ use Rattle.rules.specs.declared.Record.{Record}
 use Rattle.rules.specs.declared.Found.{Found}
 use Rattle.rules.specs.declared.Found.the-variants.{Nowhere, At}
 use Rattle.rules.specs.Bytes.{lineAt}
+use Rattle.rules.specs.declared.Answer.{Answer}
 use Rattle.rules.specs.Pass.{if_then_else_}
 use Rattle.rules.specs.Table.{Memory, isFree, isZero, heated, withHeat, newRecord, keyRecord, freeRecord, victim, halfDown, mostTotal, places, size, lineTotal, withTable, withGauge, write}
-use Rattle.rules.specs.Steps.{aged, agedGauge, decayFor, grown, track, raised, evict, admission, place, readCounted, warmSteps, peekSteps, readSteps, level}
+use Rattle.rules.specs.Steps.{Outcome, aged, agedGauge, decayFor, grown, track, raised, evict, admission, place, readCounted, warmSteps, peekSteps, readSteps, level}
 use Rattle.rules.specs.Calls.{mostWeight}
 use Rattle.rules.specs.Replay.{Truth, ageTruth, grownTruth, warmTruth, readTruth}
 use Rattle.rules.proofs.Places.{IsRecord, recordAt-is}
@@ -25,6 +26,7 @@ use Rattle.rules.proofs.Changes.{at-same}
 use Rattle.rules.proofs.Memories.{places-write, size-write, sizes-say}
 use Rattle.rules.proofs.InOrder.{lined-most, has-victim}
 use Rattle.rules.proofs.ReadKeeps.{counted, heat-sound, heat-full, heat-hottest, track-sound, track-full, track-hottest, level-bounds}
+use Rattle.rules.proofs.Peek.{read-counts, read-either}
 use Rattle.rules.proofs.CallsHold.{age-holds, write-kept, admit-holds}
 
 -- the record written at i, tracked, is admitted
@@ -157,9 +159,8 @@ warm-holds m t key w h small fits =
 
 pub read-holds : (m : Memory) (t : Truth) (key w : ℕ) → Holds m t → w ≤ mostWeight → key < 2 ^ 64 →
     Holds (readSteps m key w .after) (readTruth t key w)
-unfolding readSteps peekSteps readTruth
-read-holds m t key w h small fits = go (eqb w 0)
-  where
-    go : (b : Bool) → Holds ((if b then peekSteps m key else warmSteps m key w) .after) (if b then t else warmTruth t key w)
-    go true = h
-    go false = warm-holds m t key w h small fits
+unfolding peekSteps readTruth
+read-holds m t key w h small fits =
+    read-either m key w (λ (o : Outcome Answer Memory). Holds (o .after) (readTruth t key w))
+    (λ e. rw e h)
+    (λ weighs. rw (read-counts t key w weighs) (warm-holds m t key w h small fits))

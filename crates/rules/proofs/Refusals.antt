@@ -7,7 +7,6 @@ use mathlib.Core.List.{List, [], _∷_}
 use native.Mathlib.Omega.{arith}
 use borrow.Author.Tests.{lt-ltb, le-ltb, eqb-true}
 use lib.ListN.{length}
-use lib.Dec.{eqb}
 use Rattle.rules.specs.declared.Record.{Record}
 use Rattle.rules.specs.declared.Verdict.{Verdict}
 use Rattle.rules.specs.declared.Verdict.the-variants.{Accepted}
@@ -25,6 +24,7 @@ use Rattle.rules.specs.Steps.{Outcome, outcome, ageSteps, readAnswer, ad
 use Rattle.rules.specs.Calls.{Test, unless, leaving, sizesTest, orderTest, HostMemory, held, stored, gaugeTest, verdict, hosted, plainVerdict, readVerdict, updateVerdict, fillVerdict, ageOutcome, readOutcome, updateOutcome, fillOutcome}
 use Rattle.rules.proofs.Searches.{clash}
 use Rattle.rules.proofs.Verdicts.{first-passes, refused-leaves}
+use Rattle.rules.proofs.Peek.{read-either}
 
 -- ---- no step of a read, an update or an aging refuses
 read-answers : (r : Record) → isRefused (readAnswer r) ≡ false
@@ -49,12 +49,11 @@ peek-answers Nowhere = refl
 peek-answers (At i r) = read-answers _
 
 read-steps-answer : (m : Memory) (key w : ℕ) → isRefused (readSteps m key w .answer) ≡ false
-unfolding readSteps peekSteps warmSteps readCounted
-read-steps-answer m key w = go (eqb w 0)
-  where
-    go : (b : Bool) → isRefused ((if b then peekSteps m key else warmSteps m key w) .answer) ≡ false
-    go true = peek-answers _
-    go false = place-answers (grown w (decayFor w m)) key w _ _ _
+unfolding peekSteps warmSteps readCounted
+read-steps-answer m key w =
+    read-either m key w (λ (o : Outcome Answer Memory). isRefused (o .answer) ≡ false)
+    (λ _. peek-answers _)
+    (λ _. place-answers (grown w (decayFor w m)) key w _ _ _)
 
 change-answers : (m : Memory) (w : ℕ) (x : Found) → isRefused (change m w x .answer) ≡ false
 unfolding change isRefused
