@@ -14,10 +14,12 @@ extern "C" {
     fn cot_read(
         table: *mut u8, table_len: usize, gauge: *mut u8, gauge_len: usize,
         lines: *const u8, lines_len: usize, key: u64, weight: u64,
+        ticket: *mut u8, ticket_len: usize,
     ) -> u64;
     fn cot_fill(
         table: *mut u8, table_len: usize, gauge: *const u8, gauge_len: usize,
         lines: *mut u8, lines_len: usize, key: u64, picture: *const u8, picture_len: usize,
+        ticket: u64,
     ) -> u64;
 }
 
@@ -39,14 +41,19 @@ trait Policy {
 /// The library: a read of weight 1, and a fill where it answers wanted.
 struct Library {
     table: Vec<u8>,
-    gauge: [u8; 16],
+    gauge: [u8; 24],
     lines: Vec<u8>,
+    /// Of the last read that answered wanted.
+    ticket: [u8; 8],
 }
 
 #[rustfmt::skip]
 impl Library {
     fn new(records: usize, lines: usize) -> Self {
-        Library { table: vec![0; 32 * records], gauge: [0; 16], lines: vec![0; 64 * lines] }
+        Library {
+            table: vec![0; 40 * records], gauge: [0; 24], lines: vec![0; 64 * lines],
+            ticket: [0; 8],
+        }
     }
 
     fn read(&mut self, key: u64) -> u64 {
@@ -57,6 +64,7 @@ impl Library {
                 self.gauge.as_mut_ptr(), self.gauge.len(),
                 self.lines.as_ptr(), self.lines.len(),
                 key, 1,
+                self.ticket.as_mut_ptr(), self.ticket.len(),
             )
         }
     }
@@ -69,6 +77,7 @@ impl Library {
                 self.gauge.as_ptr(), self.gauge.len(),
                 self.lines.as_mut_ptr(), self.lines.len(),
                 key, picture.as_ptr(), picture.len(),
+                u64::from_le_bytes(self.ticket),
             )
         }
     }

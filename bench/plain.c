@@ -9,20 +9,22 @@
 #error "get and put load and store the lent numbers as they are"
 #endif
 
-enum { RECORD_BYTES = 32, GAUGE_BYTES = 16, LINE_BYTES = 64 };
+enum { RECORD_BYTES = 40, GAUGE_BYTES = 24, LINE_BYTES = 64, TICKET_BYTES = 8 };
 enum { MAX_RECORDS = 1024, MAX_WEIGHT = 65535 };
-enum { KEY = 0, HEAT = 8, SLACK = 16, STATE = 24 }; /* places in a record */
-enum { TOTAL = 0, CEILING = 8 };                    /* places in the gauge */
-enum { FREE = 0, TRACKED = 1 };                     /* states without a line */
+enum { KEY = 0, HEAT = 8, SLACK = 16, STATE = 24, TICKET = 32 }; /* places in a record */
+enum { TOTAL = 0, CEILING = 8, SERIAL = 16 };                    /* places in the gauge */
+enum { FREE = 0, TRACKED = 1 };                                  /* states without a line */
 
 enum {
     BAD_SIZE = 1, BAD_WEIGHT = 2, BAD_ORDER = 3,
     BAD_PICTURE = 4, NO_LINE = 5, LINE_FILLED = 6,
+    OTHER_TICKET = 9, NO_SERIAL = 10,
     DONE = 0, AGED = 100, CHANGED = 101, UNKNOWN = 102, STORED = 103, PASSED = 104,
     HIT = 2000, WANTED = 4000
 };
 
 static const uint64_t MAX_TOTAL = 4294967295; /* L */
+static const uint64_t MAX_SERIAL = UINT64_C(9223372036854775808);
 
 static inline uint64_t get(const uint8_t *p)
 {
@@ -65,11 +67,19 @@ static bool in_order(const uint8_t *table, size_t table_len,
         uint64_t state = get(r + STATE);
         if (heat > total || state > 1 + 2 * lines)
             return false;
-        if (state == FREE && (get(r + KEY) | heat | get(r + SLACK)) != 0)
+        if (on_line(state))
+            used++;
+        else if (get(r + TICKET) != 0 ||
+                 (state == FREE && (get(r + KEY) | heat | get(r + SLACK)) != 0))
             return false;
-        used += on_line(state);
     }
     return used <= lines;
+}
+
+/* True where no serial is left. A table in order may have any. */
+static bool used_up(const uint8_t *gauge)
+{
+    return get(gauge + SERIAL) >= MAX_SERIAL;
 }
 
 /* The key's record, or NULL where the key is untracked. */
@@ -118,16 +128,34 @@ static uint8_t *hottest_without_line(uint8_t *table, size_t table_len)
     return hottest;
 }
 
+/* Gives record r the next serial as its ticket. */
+static void new_ticket(uint8_t *gauge, uint8_t *r)
+{
+    uint64_t serial = get(gauge + SERIAL) + 1;
+
+    put(gauge + SERIAL, serial);
+    put(r + TICKET, serial);
+}
+
+/* Moves the line of record `from`, empty and with a new ticket, to record `to`. */
+static void hand_over(uint8_t *gauge, uint8_t *from, uint8_t *to)
+{
+    put(to + STATE, empty_line(line_of(get(from + STATE))));
+    new_ticket(gauge, to);
+    put(from + STATE, TRACKED);
+    put(from + TICKET, 0);
+}
+
 /* Gives record r, which has no line, the lowest unused line, or else the line
- * of the coldest record on one where r is hotter. Returns r's state. */
-static uint64_t claim_line(uint8_t *table, size_t table_len, size_t lines, uint8_t *r)
+ * of the coldest record on one where r is hotter. */
+static void claim_line(uint8_t *table, size_t table_len, uint8_t *gauge,
+                       size_t lines, uint8_t *r)
 {
     uint8_t *end = table + table_len;
     uint8_t *coldest = NULL;
     uint64_t least = UINT64_MAX;
     uint8_t used[1 + MAX_RECORDS]; /* line n at n + 1; place 0 is for no line */
     const uint8_t *unused;
-    uint64_t state = TRACKED;
 
     memset(used, 0, 1 + lines);
     for (uint8_t *s = table; s < end; s += RECORD_BYTES) {
@@ -141,13 +169,11 @@ static uint64_t claim_line(uint8_t *table, size_t table_len, size_t lines, uint8
     }
     unused = memchr(used + 1, 0, lines);
     if (unused) {
-        state = empty_line((uint64_t)(unused - (used + 1)));
+        put(r + STATE, empty_line((uint64_t)(unused - (used + 1))));
+        new_ticket(gauge, r);
     } else if (coldest && get(r + HEAT) > least) {
-        state = empty_line(line_of(get(coldest + STATE)));
-        put(coldest + STATE, TRACKED);
+        hand_over(gauge, coldest, r);
     }
-    put(r + STATE, state);
-    return state;
 }
 
 static void halve(uint8_t *table, size_t table_len, uint8_t *gauge)
@@ -163,7 +189,8 @@ static void halve(uint8_t *table, size_t table_len, uint8_t *gauge)
     put(gauge + CEILING, get(gauge + CEILING) / 2);
 }
 
-/* Puts an untracked key into the table and returns its record. */
+/* Puts an untracked key into the table and returns its record. The record has
+ * no line, so its ticket is 0 already. */
 static uint8_t *track(uint8_t *table, size_t table_len, uint8_t *gauge,
                       uint64_t key, uint64_t weight)
 {
@@ -181,31 +208,36 @@ static uint8_t *track(uint8_t *table, size_t table_len, uint8_t *gauge,
     return r;
 }
 
-/* What a read answers of a record's state. */
-static uint64_t standing(uint64_t state)
+/* What a read answers of record r. A wanted gives its ticket. */
+static uint64_t standing(const uint8_t *r, uint8_t *ticket)
 {
+    uint64_t state = get(r + STATE);
+
     if (!on_line(state))
         return PASSED;
-    return (is_filled(state) ? HIT : WANTED) + line_of(state);
+    if (is_filled(state))
+        return HIT + line_of(state);
+    put(ticket, get(r + TICKET));
+    return WANTED + line_of(state);
 }
 
-static uint64_t look(uint8_t *table, size_t table_len, uint64_t key)
+static uint64_t look(uint8_t *table, size_t table_len, uint64_t key, uint8_t *ticket)
 {
     const uint8_t *r = find(table, table_len, key);
 
-    return standing(r ? get(r + STATE) : FREE);
+    return r ? standing(r, ticket) : PASSED;
 }
 
 uint64_t plain_read(uint8_t *table, size_t table_len,
                     uint8_t *gauge, size_t gauge_len,
                     const uint8_t *lines, size_t lines_len,
-                    uint64_t key, uint64_t weight)
+                    uint64_t key, uint64_t weight,
+                    uint8_t *ticket, size_t ticket_len)
 {
     uint8_t *r;
-    uint64_t state;
 
     (void)lines;
-    if (!sizes_fit(table_len, gauge_len, lines_len))
+    if (!sizes_fit(table_len, gauge_len, lines_len) || ticket_len != TICKET_BYTES)
         return BAD_SIZE;
     if (weight > MAX_WEIGHT)
         return BAD_WEIGHT;
@@ -213,7 +245,10 @@ uint64_t plain_read(uint8_t *table, size_t table_len,
         return BAD_ORDER;
 
     if (weight == 0)
-        return look(table, table_len, key);
+        return look(table, table_len, key, ticket);
+    if (used_up(gauge))
+        return NO_SERIAL;
+
     if (get(gauge + TOTAL) + weight > MAX_TOTAL)
         halve(table, table_len, gauge);
     put(gauge + TOTAL, get(gauge + TOTAL) + weight);
@@ -224,10 +259,9 @@ uint64_t plain_read(uint8_t *table, size_t table_len,
     else
         r = track(table, table_len, gauge, key, weight);
 
-    state = get(r + STATE);
-    if (!on_line(state))
-        state = claim_line(table, table_len, lines_len / LINE_BYTES, r);
-    return standing(state);
+    if (!on_line(get(r + STATE)))
+        claim_line(table, table_len, gauge, lines_len / LINE_BYTES, r);
+    return standing(r, ticket);
 }
 
 uint64_t plain_update(uint8_t *table, size_t table_len,
@@ -245,6 +279,8 @@ uint64_t plain_update(uint8_t *table, size_t table_len,
         return BAD_WEIGHT;
     if (!in_order(table, table_len, gauge, lines_len))
         return BAD_ORDER;
+    if (used_up(gauge))
+        return NO_SERIAL;
 
     r = find(table, table_len, key);
     if (!r)
@@ -256,13 +292,13 @@ uint64_t plain_update(uint8_t *table, size_t table_len,
     state = get(r + STATE);
     if (!on_line(state))
         return CHANGED;
-    state = empty_line(line_of(state));
     hottest = hottest_without_line(table, table_len);
     if (hottest && get(hottest + HEAT) > heat) {
-        put(hottest + STATE, state);
-        state = TRACKED;
+        hand_over(gauge, r, hottest);
+    } else {
+        put(r + STATE, empty_line(line_of(state)));
+        new_ticket(gauge, r);
     }
-    put(r + STATE, state);
     return CHANGED;
 }
 
@@ -270,7 +306,8 @@ uint64_t plain_fill(uint8_t *table, size_t table_len,
                     const uint8_t *gauge, size_t gauge_len,
                     uint8_t *lines, size_t lines_len,
                     uint64_t key,
-                    const uint8_t *picture, size_t picture_len)
+                    const uint8_t *picture, size_t picture_len,
+                    uint64_t ticket)
 {
     uint8_t *r;
     uint64_t state;
@@ -281,6 +318,8 @@ uint64_t plain_fill(uint8_t *table, size_t table_len,
         return BAD_PICTURE;
     if (!in_order(table, table_len, gauge, lines_len))
         return BAD_ORDER;
+    if (used_up(gauge))
+        return NO_SERIAL;
 
     r = find(table, table_len, key);
     if (!r || !on_line(get(r + STATE)))
@@ -288,6 +327,8 @@ uint64_t plain_fill(uint8_t *table, size_t table_len,
     state = get(r + STATE);
     if (is_filled(state))
         return LINE_FILLED;
+    if (get(r + TICKET) != ticket)
+        return OTHER_TICKET;
     memcpy(lines + LINE_BYTES * line_of(state), picture, LINE_BYTES);
     put(r + STATE, state + 1);
     return STORED;

@@ -20,19 +20,21 @@ struct memory {
     uint8_t gauge[COT_GAUGE_BYTES];
     uint8_t lines[COT_MOST_RECORDS * COT_LINE_BYTES];
     uint8_t sum[COT_SUM_BYTES];
+    uint8_t ticket[COT_TICKET_BYTES];
 };
 
 typedef uint64_t call(struct memory *m);
 
 #define WHOLE(m) (m)->table, (m)->table_len, (m)->gauge, COT_GAUGE_BYTES, (m)->lines, (m)->lines_len
+#define TICKET(m) (m)->ticket, COT_TICKET_BYTES
 static uint64_t library_fresh(struct memory *m) { return cot_fresh(WHOLE(m)); }
 static uint64_t plain_fresh_of(struct memory *m) { return plain_fresh(WHOLE(m)); }
 static uint64_t library_age(struct memory *m) { return cot_age(WHOLE(m)); }
 static uint64_t plain_age_of(struct memory *m) { return plain_age(WHOLE(m)); }
 static uint64_t library_sum(struct memory *m) { return cot_levelled_sum(WHOLE(m), m->sum, COT_SUM_BYTES); }
 static uint64_t plain_sum_of(struct memory *m) { return plain_levelled_sum(WHOLE(m), m->sum, COT_SUM_BYTES); }
-static uint64_t library_look(struct memory *m) { return cot_read(WHOLE(m), UINT64_MAX, 0); }
-static uint64_t plain_look_of(struct memory *m) { return plain_read(WHOLE(m), UINT64_MAX, 0); }
+static uint64_t library_look(struct memory *m) { return cot_read(WHOLE(m), UINT64_MAX, 0, TICKET(m)); }
+static uint64_t plain_look_of(struct memory *m) { return plain_read(WHOLE(m), UINT64_MAX, 0, TICKET(m)); }
 
 static void fill(struct memory *m, size_t k)
 {
@@ -40,7 +42,7 @@ static void fill(struct memory *m, size_t k)
     m->table_len = k * COT_RECORD_BYTES;
     m->lines_len = k / 4 * COT_LINE_BYTES;
     for (uint64_t key = 0; key < 2 * k; key++)
-        cot_read(WHOLE(m), key, 1 + key % 999);
+        cot_read(WHOLE(m), key, 1 + key % 999, TICKET(m));
 }
 
 /* The best time of CALLS calls, for each. False where a byte or an answer differs. */

@@ -20,14 +20,16 @@
 #include <string.h>
 
 uint64_t cot_read(uint8_t *table, size_t table_len, uint8_t *gauge, size_t gauge_len,
-                  const uint8_t *lines, size_t lines_len, uint64_t key, uint64_t weight);
+                  const uint8_t *lines, size_t lines_len, uint64_t key, uint64_t weight,
+                  uint8_t *ticket, size_t ticket_len);
 uint64_t cot_update(uint8_t *table, size_t table_len, uint8_t *gauge, size_t gauge_len,
                     const uint8_t *lines, size_t lines_len, uint64_t key, uint64_t weight);
 uint64_t cot_fill(uint8_t *table, size_t table_len, const uint8_t *gauge, size_t gauge_len,
                   uint8_t *lines, size_t lines_len, uint64_t key,
-                  const uint8_t *picture, size_t picture_len);
+                  const uint8_t *picture, size_t picture_len, uint64_t ticket);
 
-enum { RECORD_BYTES = 32, GAUGE_BYTES = 16, LINE_BYTES = 64, MAX_RECORDS = 1024 };
+enum { RECORD_BYTES = 40, GAUGE_BYTES = 24, LINE_BYTES = 64, TICKET_BYTES = 8 };
+enum { MAX_RECORDS = 1024 };
 enum { HIT = 2000, WANTED = 4000 };
 enum { KEYS = 100000, UPDATES_IN_100 = 5 };
 /* The sequence has this length whatever N is, so that its making cancels in
@@ -38,11 +40,13 @@ enum { WARM_UP = 20000, DEFAULT_CALLS = 50000, ROUNDS = 5, SLICES = 100 };
 struct implementation {
     const char *name;
     uint64_t (*read)(uint8_t *, size_t, uint8_t *, size_t,
-                     const uint8_t *, size_t, uint64_t, uint64_t);
+                     const uint8_t *, size_t, uint64_t, uint64_t,
+                     uint8_t *, size_t);
     uint64_t (*update)(uint8_t *, size_t, uint8_t *, size_t,
                        const uint8_t *, size_t, uint64_t, uint64_t);
     uint64_t (*fill)(uint8_t *, size_t, const uint8_t *, size_t,
-                     uint8_t *, size_t, uint64_t, const uint8_t *, size_t);
+                     uint8_t *, size_t, uint64_t, const uint8_t *, size_t,
+                     uint64_t);
 };
 
 static const struct implementation LIBRARY = { "library", cot_read, cot_update, cot_fill };
@@ -60,6 +64,7 @@ struct memory {
     uint8_t table[MAX_RECORDS * RECORD_BYTES];
     uint8_t gauge[GAUGE_BYTES];
     uint8_t lines[MAX_RECORDS * LINE_BYTES];
+    uint8_t ticket[TICKET_BYTES];
 };
 
 struct counts {
@@ -83,13 +88,15 @@ static struct answers serve(const struct implementation *im, struct memory *m,
     }
     c->reads++;
     a.request = im->read(m->table, m->table_len, m->gauge, GAUGE_BYTES,
-                         m->lines, m->lines_len, q->key, 1);
+                         m->lines, m->lines_len, q->key, 1, m->ticket, TICKET_BYTES);
     if (a.request >= WANTED) {
         uint8_t picture[LINE_BYTES] = { 0 };
+        uint64_t ticket;
         memcpy(picture, &q->key, sizeof q->key);
+        memcpy(&ticket, m->ticket, sizeof ticket);
         c->calls++;
         a.fill = im->fill(m->table, m->table_len, m->gauge, GAUGE_BYTES,
-                          m->lines, m->lines_len, q->key, picture, LINE_BYTES);
+                          m->lines, m->lines_len, q->key, picture, LINE_BYTES, ticket);
     } else if (a.request >= HIT) {
         c->hits++;
     }

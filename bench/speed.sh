@@ -13,6 +13,7 @@ mkdir -p "$out"
 gcc "${flags[@]}" -c bench/speed.c -o "$out/speed.o"
 gcc "${flags[@]}" -c bench/plain.c -o "$out/plain.o"
 gcc "${flags[@]}" -Iinclude -o "$out/rare" bench/rare.c "$out/plain.o" "$library" -lm
+gcc "${flags[@]}" -o "$out/width" bench/width.c
 
 # The place of a loop in memory changes its speed by up to a tenth. The program
 # is linked at four places, 16 bytes apart; the best of the four counts.
@@ -47,6 +48,11 @@ echo
 echo "Nanoseconds a call that is rare, best of all runs:"
 echo
 "$out/rare"
+
+echo
+echo "Nanoseconds an order test in plain C, by the width of a record:"
+echo
+"$out/width"
 
 if ! command -v valgrind > /dev/null; then
     echo "speed.sh: no valgrind here, so no instruction counts" >&2

@@ -35,31 +35,54 @@ static int checked(uint64_t number)
     return 1;
 }
 
-/* Some pieces of a class are waiting: its picture is used, from its line if it is there. */
-static int sort(uint64_t key, uint64_t pieces)
+/* Some pieces of a class are waiting. A wanted tells a ticket. */
+static uint64_t ask(uint64_t key, uint64_t pieces, uint8_t ticket[COT_TICKET_BYTES])
 {
-    uint8_t picture[COT_LINE_BYTES];
-    const uint8_t *use = picture;
-
     printf("class %" PRIu64 ", pieces waiting: %" PRIu64 "\n", key, pieces);
     uint64_t number = cot_read(table, sizeof table, gauge, sizeof gauge, lines, sizeof lines, key,
-                               pieces);
+                               pieces, ticket, COT_TICKET_BYTES);
+    if (cot_is_hit(number))
+        printf("  hit on line %zu\n", cot_line(number));
+    else if (cot_is_wanted(number))
+        printf("  wanted on line %zu, ticket %" PRIu64 "\n", cot_line(number), cot_ticket(ticket));
+    else if (number == COT_PASSED)
+        printf("  passed: not hot enough for a line\n");
+    return number;
+}
+
+/* A picture that was wanted arrives, with the ticket that was given. If it comes too late (the line
+ * is lost or filled, or the picture has changed), it is dropped: no fault of the host. */
+static int fill(uint64_t key, const uint8_t picture[COT_LINE_BYTES], uint64_t ticket)
+{
+    uint64_t number = cot_fill(table, sizeof table, gauge, sizeof gauge, lines, sizeof lines, key,
+                               picture, COT_LINE_BYTES, ticket);
+    if (number == COT_REFUSED_NO_LINE || number == COT_REFUSED_FILLED ||
+        number == COT_REFUSED_TICKET) {
+        printf("  ticket %" PRIu64 " is refused with %" PRIu64 ": too late, dropped\n", ticket,
+               number);
+        return 1;
+    }
     if (!checked(number))
         return 0;
-    if (cot_is_hit(number)) {
-        printf("  hit on line %zu\n", cot_line(number));
+    printf("  filled\n");
+    return 1;
+}
+
+/* The picture of a class is used, from its line if it is there. */
+static int sort(uint64_t key, uint64_t pieces)
+{
+    uint8_t picture[COT_LINE_BYTES], ticket[COT_TICKET_BYTES];
+    const uint8_t *use = picture;
+
+    uint64_t number = ask(key, pieces, ticket);
+    if (!checked(number))
+        return 0;
+    if (cot_is_hit(number))
         use = lines + COT_LINE_BYTES * cot_line(number);
-    } else if (cot_is_wanted(number)) {
-        printf("  wanted on line %zu\n", cot_line(number));
+    else
         fetch(key, picture);
-        if (!checked(cot_fill(table, sizeof table, gauge, sizeof gauge, lines, sizeof lines, key,
-                              picture, sizeof picture)))
-            return 0;
-        printf("  filled\n");
-    } else {
-        printf("  passed: not hot enough for a line\n");
-        fetch(key, picture);
-    }
+    if (cot_is_wanted(number) && !fill(key, picture, cot_ticket(ticket)))
+        return 0;
     printf("  used: %s\n", (const char *)use);
     return 1;
 }
@@ -67,9 +90,11 @@ static int sort(uint64_t key, uint64_t pieces)
 /* The display shows a class before any piece falls: a read of weight 0 changes nothing. */
 static int look(uint64_t key)
 {
+    uint8_t ticket[COT_TICKET_BYTES];
+
     printf("the display asks for class %" PRIu64 "\n", key);
     uint64_t number = cot_read(table, sizeof table, gauge, sizeof gauge, lines, sizeof lines, key,
-                               0);
+                               0, ticket, sizeof ticket);
     if (!checked(number))
         return 0;
     if (cot_is_hit(number))
@@ -90,6 +115,18 @@ static int change(uint64_t key)
         return 0;
     printf("  %s\n", number == COT_CHANGED ? "changed" : "unknown");
     return 1;
+}
+
+/* An update overtakes a fetch: the picture that arrives is the old one. */
+static int overtaken(uint64_t key, uint64_t pieces)
+{
+    uint8_t picture[COT_LINE_BYTES], ticket[COT_TICKET_BYTES];
+
+    uint64_t number = ask(key, pieces, ticket);
+    if (!cot_is_wanted(number))
+        return checked(number);
+    fetch(key, picture);
+    return change(key) && fill(key, picture, cot_ticket(ticket));
 }
 
 static int age(void)
@@ -131,17 +168,18 @@ int main(void)
     if (!checked(cot_fresh(table, sizeof table, gauge, sizeof gauge, lines, sizeof lines)))
         return 1;
 
-    int good = look(5)        /* passed: nothing is known of class 5, and a look leaves it so */
-               && sort(5, 3)  /* wanted: the picture is fetched and filled */
-               && look(5)     /* hit */
-               && sort(5, 1)  /* hit */
-               && sort(7, 2)  /* passed: class 5 is hotter and there is one line */
-               && change(5)   /* the line of class 5 becomes empty */
-               && look(5)     /* wanted, and the line stays empty */
-               && sort(5, 1)  /* wanted again */
-               && sort(5, 1)  /* hit, with the new picture */
-               && age()       /* every heat is halved; the picture stays */
-               && sort(5, 1)  /* hit */
+    int good = look(5)            /* passed: nothing is known of class 5, and a look leaves it so */
+               && sort(5, 3)      /* wanted: the picture is fetched and filled */
+               && look(5)         /* hit */
+               && sort(5, 1)      /* hit */
+               && sort(7, 2)      /* passed: class 5 is hotter and there is one line */
+               && change(5)       /* the line of class 5 becomes empty */
+               && look(5)         /* wanted, and the line stays empty */
+               && overtaken(5, 1) /* wanted, but the picture changes before it arrives */
+               && sort(5, 1)      /* wanted again, with another ticket */
+               && sort(5, 1)      /* hit, with the new picture */
+               && age()           /* every heat is halved; the picture stays */
+               && sort(5, 1)      /* hit */
                && report();
     return good ? 0 : 1;
 }

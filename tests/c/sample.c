@@ -1,19 +1,20 @@
-/* sample.c: document 01's thirteen sample calls, the edges for K = 3, C = 1, document 02's looks,
- * fresh, levelled sums and the helpers of cot.h.
+/* sample.c: document 01's thirteen sample calls, the edges for K = 3, C = 1, document 02's looks
+ * and tickets, fresh, levelled sums and the helpers of cot.h.
  *
- * Prints each returned number, with the line of a hit or a wanted, and the gauge after the call.
- * A refused call must leave all lent memory as it was. The output must equal sample.expected. */
+ * Prints each returned number, with the line of a hit or a wanted and the ticket of a wanted, and
+ * the gauge after the call. A refused call must leave all lent memory as it was, and a read that
+ * is not wanted the ticket bytes. The output must equal sample.expected. */
 #include "cot.h"
 
 #include <inttypes.h>
 #include <stdio.h>
 #include <string.h>
 
-enum { K = 3, C = 1, MOST = 256 };
+enum { K = 3, C = 1, MOST = COT_RECORD_BYTES * (COT_MOST_RECORDS + 1) };
 
 /* The lent buffers, each with room for lengths that are too large. */
-static uint8_t table[MOST], gauge[MOST], lines[MOST], picture[MOST], sum[MOST];
-static size_t table_len, gauge_len, lines_len, picture_len, sum_len;
+static uint8_t table[MOST], gauge[MOST], lines[MOST], picture[MOST], ticket[MOST], sum[MOST];
+static size_t table_len, gauge_len, lines_len, picture_len, ticket_len, sum_len;
 
 /* "A length of 0 may come with any pointer, NULL too." */
 static uint8_t *lent(uint8_t *bytes, size_t len)
@@ -35,6 +36,7 @@ static void put(uint8_t *bytes, uint64_t number)
         bytes[i] = (uint8_t)(number >> (8 * i));
 }
 
+/* A record with ticket 0. */
 static void put_record(int place, uint64_t key, uint64_t heat, uint64_t slack, uint64_t state)
 {
     uint8_t *record = table + COT_RECORD_BYTES * place;
@@ -42,12 +44,23 @@ static void put_record(int place, uint64_t key, uint64_t heat, uint64_t slack, u
     put(record + 8, heat);
     put(record + 16, slack);
     put(record + 24, state);
+    put(record + 32, 0);
+}
+
+static void put_ticket(int place, uint64_t number)
+{
+    put(table + COT_RECORD_BYTES * place + 32, number);
 }
 
 static void put_gauge(uint64_t total, uint64_t ceiling)
 {
     put(gauge, total);
     put(gauge + 8, ceiling);
+}
+
+static void put_serial(uint64_t serial)
+{
+    put(gauge + 16, serial);
 }
 
 /* A fresh table and gauge of the right lengths. */
@@ -63,6 +76,7 @@ static void fresh(void)
     gauge_len = COT_GAUGE_BYTES;
     lines_len = COT_LINE_BYTES * C;
     picture_len = COT_LINE_BYTES;
+    ticket_len = COT_TICKET_BYTES;
     sum_len = COT_SUM_BYTES;
 }
 
@@ -75,7 +89,7 @@ static void dirty(void)
 }
 
 /* The memory before a call. */
-static uint8_t before[5][MOST];
+static uint8_t before[6][MOST];
 
 static void keep(void)
 {
@@ -84,6 +98,8 @@ static void keep(void)
     memcpy(before[2], lines, MOST);
     memcpy(before[3], picture, MOST);
     memcpy(before[4], sum, MOST);
+    memset(ticket, 0x3c, MOST);
+    memcpy(before[5], ticket, MOST);
 }
 
 /* 1 if the table, the gauge and the lines are as they were before the call. */
@@ -98,6 +114,11 @@ static int sum_kept(void)
     return memcmp(before[4], sum, MOST) == 0;
 }
 
+static int ticket_kept(void)
+{
+    return memcmp(before[5], ticket, MOST) == 0;
+}
+
 /* Prints what a call came to, with what more there is to say of it. */
 static void show(const char *name, uint64_t number, const char *more)
 {
@@ -105,9 +126,11 @@ static void show(const char *name, uint64_t number, const char *more)
     if (cot_is_hit(number))
         printf(" (hit, line %zu)", cot_line(number));
     if (cot_is_wanted(number))
-        printf(" (wanted, line %zu)", cot_line(number));
-    printf(", total %" PRIu64 ", ceiling %" PRIu64 "%s", number_at(gauge), number_at(gauge + 8),
-           more);
+        printf(" (wanted, line %zu, ticket %" PRIu64 ")", cot_line(number), cot_ticket(ticket));
+    else if (!ticket_kept())
+        printf(", TICKET BYTES CHANGED");
+    printf(", total %" PRIu64 ", ceiling %" PRIu64 ", serial %" PRIu64 "%s", number_at(gauge),
+           number_at(gauge + 8), number_at(gauge + 16), more);
     if (cot_is_refused(number))
         printf(", memory %s", three_kept() && sum_kept() ? "as it was" : "CHANGED");
     if (number == COT_STORED && memcmp(lines, picture, COT_LINE_BYTES) != 0)
@@ -117,7 +140,8 @@ static void show(const char *name, uint64_t number, const char *more)
     if (memcmp(before[0] + table_len, table + table_len, MOST - table_len) != 0 ||
         memcmp(before[1] + gauge_len, gauge + gauge_len, MOST - gauge_len) != 0 ||
         memcmp(before[2] + lines_len, lines + lines_len, MOST - lines_len) != 0 ||
-        memcmp(before[4] + sum_len, sum + sum_len, MOST - sum_len) != 0)
+        memcmp(before[4] + sum_len, sum + sum_len, MOST - sum_len) != 0 ||
+        memcmp(before[5] + ticket_len, ticket + ticket_len, MOST - ticket_len) != 0)
         printf(", BYTES PAST A LENGTH CHANGED");
     printf("\n");
 }
@@ -127,10 +151,13 @@ static void show(const char *name, uint64_t number, const char *more)
     lent(table, table_len), table_len, lent(gauge, gauge_len), gauge_len, lent(lines, lines_len),  \
         lines_len
 
+/* Where a read puts the ticket of a wanted. */
+#define TICKET lent(ticket, ticket_len), ticket_len
+
 static void call_read(const char *name, uint64_t key, uint64_t weight)
 {
     keep();
-    show(name, cot_read(LENT, key, weight), "");
+    show(name, cot_read(LENT, key, weight, TICKET), "");
 }
 
 /* A look is a read of weight 0. */
@@ -138,9 +165,11 @@ static void call_look(const char *name, uint64_t key)
 {
     const char *more = "";
     keep();
-    uint64_t number = cot_read(LENT, key, 0);
+    uint64_t number = cot_read(LENT, key, 0, TICKET);
     if (!cot_is_refused(number))
-        more = three_kept() && sum_kept() ? ", nothing changed" : ", MEMORY CHANGED";
+        more = !three_kept() || !sum_kept() ? ", MEMORY CHANGED"
+               : cot_is_wanted(number)      ? ", nothing else changed"
+                                            : ", nothing changed";
     show(name, number, more);
 }
 
@@ -150,10 +179,10 @@ static void call_update(const char *name, uint64_t key, uint64_t weight)
     show(name, cot_update(LENT, key, weight), "");
 }
 
-static void call_fill(const char *name, uint64_t key)
+static void call_fill(const char *name, uint64_t key, uint64_t brought)
 {
     keep();
-    show(name, cot_fill(LENT, key, lent(picture, picture_len), picture_len), "");
+    show(name, cot_fill(LENT, key, lent(picture, picture_len), picture_len, brought), "");
 }
 
 static void call_age(const char *name)
@@ -187,11 +216,22 @@ static void call_sum(const char *name)
     show(name, number, more);
 }
 
+static void show_records(void)
+{
+    for (int i = 0; i < K; i++) {
+        const uint8_t *record = table + COT_RECORD_BYTES * i;
+        printf("record %d: key %" PRIu64 ", heat %" PRIu64 ", slack %" PRIu64 ", state %" PRIu64
+               ", ticket %" PRIu64 "\n",
+               i, number_at(record), number_at(record + 8), number_at(record + 16),
+               number_at(record + 24), number_at(record + 32));
+    }
+}
+
 static void thirteen_calls(void)
 {
     fresh();
     call_read("1 read 5 w 3", 5, 3);
-    call_fill("2 fill 5", 5);
+    call_fill("2 fill 5", 5, 1);
     call_read("3 read 5 w 1", 5, 1);
     call_read("4 read 7 w 4", 7, 4);
     call_read("5 read 7 w 1", 7, 1);
@@ -199,10 +239,11 @@ static void thirteen_calls(void)
     call_read("7 read 11 w 1", 11, 1);
     call_update("8 update 7 w 3", 7, 3);
     call_update("9 update 9 w 1", 9, 1);
-    call_fill("10 fill 7", 7);
+    call_fill("10 fill 7", 7, 2);
     call_age("11 age");
     call_read("12 read 9 w 1", 9, 1);
     call_read("13 read 9 w 1", 9, 1);
+    show_records();
     call_sum("levelled sum after the thirteen");
 }
 
@@ -214,12 +255,13 @@ static const char *of(const char *name, const char *call)
     return text;
 }
 
-/* The six calls, one after another. */
+/* The six calls, one after another. From fresh, the read takes a line with ticket 1 and the update
+ * gives it ticket 2. */
 static void all_six(const char *name)
 {
     call_read(of(name, "read"), 5, 1);
     call_update(of(name, "update"), 5, 1);
-    call_fill(of(name, "fill"), 5);
+    call_fill(of(name, "fill"), 5, 2);
     call_age(of(name, "age"));
     call_sum(of(name, "levelled sum"));
     call_fresh(of(name, "fresh"));
@@ -231,13 +273,22 @@ static void sizes(void)
     table_len = 0;
     all_six("table of 0 bytes");
     fresh();
-    table_len = 95;
-    all_six("table of 95 bytes");
+    table_len = 119;
+    all_six("table of 119 bytes");
     fresh();
-    table_len = 97;
-    all_six("table of 97 bytes");
+    table_len = 121;
+    all_six("table of 121 bytes");
     fresh();
-    table_len = 32;
+    table_len = 96;
+    all_six("table of 96 bytes");
+    fresh();
+    table_len = 40960;
+    all_six("table of 40960 bytes");
+    fresh();
+    table_len = 41000;
+    all_six("table of 41000 bytes");
+    fresh();
+    table_len = 40;
     all_six("K = 1 with one line");
     fresh();
     lines_len = 63;
@@ -252,11 +303,14 @@ static void sizes(void)
     gauge_len = 0;
     all_six("gauge of 0 bytes");
     fresh();
-    gauge_len = 15;
-    all_six("gauge of 15 bytes");
+    gauge_len = 16;
+    all_six("gauge of 16 bytes");
     fresh();
-    gauge_len = 17;
-    all_six("gauge of 17 bytes");
+    gauge_len = 23;
+    all_six("gauge of 23 bytes");
+    fresh();
+    gauge_len = 25;
+    all_six("gauge of 25 bytes");
     fresh();
     lines_len = 0;
     all_six("no lines");
@@ -270,9 +324,9 @@ static void fresh_on_any_bytes(void)
     dirty();
     table_len = 0;
     call_fresh("fresh, table of 0 bytes");
-    table_len = 95;
-    call_fresh("fresh, table of 95 bytes");
-    table_len = 32;
+    table_len = 119;
+    call_fresh("fresh, table of 119 bytes");
+    table_len = 40;
     call_fresh("fresh, K = 1 with one line");
     dirty();
     lines_len = 63;
@@ -282,19 +336,19 @@ static void fresh_on_any_bytes(void)
     dirty();
     gauge_len = 0;
     call_fresh("fresh, gauge of 0 bytes");
-    gauge_len = 15;
-    call_fresh("fresh, gauge of 15 bytes");
-    gauge_len = 17;
-    call_fresh("fresh, gauge of 17 bytes");
-    gauge_len = 16;
+    gauge_len = 23;
+    call_fresh("fresh, gauge of 23 bytes");
+    gauge_len = 25;
+    call_fresh("fresh, gauge of 25 bytes");
+    gauge_len = 24;
     call_age("any bytes, age");
     call_fresh("fresh on any bytes");
     call_read("read after it", 5, 3);
-    call_fill("fill after it", 5);
+    call_fill("fill after it", 5, 1);
     call_fresh("fresh again");
     call_update("update after it", 5, 3);
     dirty();
-    table_len = 32;
+    table_len = 40;
     lines_len = 0;
     call_fresh("fresh, K = 1 with no lines");
 }
@@ -344,18 +398,18 @@ static void levelled_sums(void)
     sum_len = 16;
     call_sum("sum of 16 bytes");
     sum_len = COT_SUM_BYTES;
-    table_len = 95;
-    call_sum("levelled sum, table of 95 bytes");
-    table_len = 64;
+    table_len = 119;
+    call_sum("levelled sum, table of 119 bytes");
+    table_len = 80;
     lines_len = 128;
     call_sum("levelled sum, K = 2 with two lines");
-    table_len = 96;
+    table_len = 120;
     lines_len = 63;
     call_sum("levelled sum, lines of 63 bytes");
     lines_len = 64;
-    gauge_len = 15;
-    call_sum("levelled sum, gauge of 15 bytes");
-    gauge_len = 16;
+    gauge_len = 23;
+    call_sum("levelled sum, gauge of 23 bytes");
+    gauge_len = 24;
     put_record(0, 5, 13, 9, 3);
     call_sum("levelled sum, heat over total");
 }
@@ -370,17 +424,17 @@ static void weights_and_pictures(void)
     call_update("weight 65536, update", 5, 65536);
     call_update("weight 2^64 - 1, update", 5, UINT64_MAX);
     picture_len = 0;
-    call_fill("picture of 0 bytes", 5);
+    call_fill("picture of 0 bytes", 5, 1);
     picture_len = 63;
-    call_fill("picture of 63 bytes", 5);
+    call_fill("picture of 63 bytes", 5, 1);
     picture_len = 65;
-    call_fill("picture of 65 bytes", 5);
+    call_fill("picture of 65 bytes", 5, 1);
     picture_len = 64;
-    call_fill("picture of 64 bytes", 5);
-    call_fill("line filled", 5);
+    call_fill("picture of 64 bytes", 5, 1);
+    call_fill("line filled", 5, 1);
     call_update("weight 65535, update", 5, 65535);
-    call_fill("fill after an update", 5);
-    call_fill("fill of an untracked key", 7);
+    call_fill("fill after an update", 5, 2);
+    call_fill("fill of an untracked key", 7, 2);
 }
 
 static void looks(void)
@@ -389,7 +443,7 @@ static void looks(void)
     call_look("look, fresh table", 5);
     call_read("a read of it", 5, 1);
     call_look("look, line empty", 5);
-    call_fill("its fill", 5);
+    call_fill("its fill", 5, 1);
     call_look("look, line filled", 5);
     call_look("look, untracked with free records", 7);
     call_read("a read of that", 7, 1);
@@ -405,8 +459,74 @@ static void looks(void)
 
     put_record(1, 5, 4, 3, 4);
     call_look("look, state 4", 5);
-    gauge_len = 15;
-    call_look("look, gauge of 15 bytes and state 4", 5);
+    gauge_len = 23;
+    call_look("look, gauge of 23 bytes and state 4", 5);
+}
+
+static void tickets(void)
+{
+    /* An update overtakes a fetch. */
+    fresh();
+    call_read("a line taken", 5, 6);
+    call_read("wanted again", 5, 1);
+    call_update("update, the line kept", 5, 1);
+    call_fill("fill with the ticket from before", 5, 1);
+    call_fill("fill with ticket 0", 5, 0);
+    call_fill("fill with a ticket to come", 5, 3);
+    call_look("look for the ticket", 5);
+    call_fill("fill with it", 5, 2);
+    call_read("hit", 5, 1);
+    call_update("update of a filled line", 5, 1);
+    call_fill("fill with the ticket of that picture", 5, 2);
+    call_age("age");
+    call_fill("fill with the new one after the aging", 5, 3);
+    show_records();
+
+    /* A line is lost and taken back: each time with another ticket. */
+    call_read("7 takes the line", 7, 9);
+    show_records();
+    call_fill("fill of 5, which lost it", 5, 3);
+    call_update("update of 5, without a line", 5, 1);
+    call_update("update of 11, untracked", 11, 1);
+    call_update("update of 7, the line lost to 5", 7, 9);
+    show_records();
+    call_fill("fill of 5 with an old ticket", 5, 3);
+    call_fill("fill of 5 with 7's ticket", 5, 4);
+    call_fill("fill of 5 with its own", 5, 5);
+
+    ticket_len = 0;
+    call_read("ticket of 0 bytes", 5, 1);
+    ticket_len = 7;
+    call_read("ticket of 7 bytes", 5, 1);
+    ticket_len = 9;
+    call_read("ticket of 9 bytes", 5, 1);
+    ticket_len = 16;
+    call_look("look, ticket of 16 bytes", 5);
+
+    /* The tickets of records on lines may be any numbers. */
+    fresh();
+    put_gauge(4, 0);
+    put_record(0, 5, 4, 0, 2);
+    call_read("ticket 0 on a line", 5, 1);
+    call_fill("its fill", 5, 0);
+    put_record(0, 5, 4, 0, 2);
+    put_ticket(0, UINT64_MAX);
+    call_read("ticket 2^64 - 1 on a line", 5, 1);
+    call_fill("its fill", 5, UINT64_MAX);
+}
+
+static void serials(void)
+{
+    /* The last ticket that is given. */
+    fresh();
+    put_serial(COT_MOST_SERIAL - 1);
+    call_read("serial 2^63 - 1, a line taken", 5, 1);
+    call_look("serial 2^63, look", 5);
+    call_look("serial 2^63, look at an untracked key", 7);
+    all_six("serial 2^63");
+    fresh();
+    put_serial(UINT64_MAX);
+    all_six("serial 2^64 - 1");
 }
 
 static void limits(void)
@@ -448,6 +568,14 @@ static void not_in_order(void)
     put_record(1, 0, 0, 1, 0);
     all_six("free record with a slack");
     fresh();
+    put_ticket(1, 1);
+    all_six("free record with a ticket");
+    fresh();
+    put_gauge(4, 0);
+    put_record(1, 5, 4, 0, 1);
+    put_ticket(1, 1);
+    all_six("ticket without a line");
+    fresh();
     put_gauge(4, 0);
     put_record(0, 5, 1, 0, 2);
     put_record(1, 7, 1, 0, 3);
@@ -458,28 +586,58 @@ static void order_of_tests(void)
 {
     fresh();
     put_gauge(4, 5);
-    gauge_len = 15;
+    gauge_len = 23;
     call_read("sizes before weight", 5, 65536);
     picture_len = 63;
-    call_fill("sizes before picture", 5);
-    gauge_len = 16;
+    call_fill("sizes before picture", 5, 1);
+    gauge_len = 24;
+    ticket_len = 7;
+    call_read("ticket bytes before weight", 5, 65536);
+    call_read("ticket bytes before order, look", 5, 0);
+    ticket_len = 8;
     sum_len = 7;
     call_sum("sum bytes before order");
     sum_len = 8;
+    put_serial(COT_MOST_SERIAL);
     call_read("weight before order, read", 5, 65536);
     call_update("weight before order, update", 5, 0);
-    call_fill("picture before order", 5);
+    call_fill("picture before order", 5, 1);
     picture_len = 64;
-    call_fill("order before no line", 5);
+    call_read("order before serial, read", 5, 1);
+    call_update("order before serial, update", 5, 1);
+    call_fill("order before serial, fill", 5, 1);
+    put_serial(0);
+    call_fill("order before no line", 5, 1);
     put_record(0, 5, 1, 0, 3);
-    call_fill("order before filled", 5);
+    call_fill("order before filled", 5, 1);
+    put_record(0, 5, 1, 0, 2);
+    call_fill("order before ticket", 5, 1);
+
+    put_gauge(5, 5);
+    put_serial(COT_MOST_SERIAL);
+    ticket_len = 7;
+    call_read("ticket bytes before serial", 5, 1);
+    ticket_len = 8;
+    call_read("weight before serial, read", 5, 65536);
+    call_update("weight before serial, update", 5, 0);
+    picture_len = 63;
+    call_fill("picture before serial", 5, 1);
+    picture_len = 64;
+    call_update("serial before unknown", 7, 1);
+    call_fill("serial before no line", 7, 1);
+    call_fill("serial before ticket", 5, 1);
+    put_record(0, 5, 1, 0, 3);
+    call_fill("serial before filled", 5, 0);
+    put_serial(0);
+    call_fill("no line before ticket", 7, 1);
+    call_fill("filled before ticket", 5, 1);
 }
 
 /* What the helpers of cot.h say of a number. */
 static void helpers(void)
 {
-    static const uint64_t numbers[] = {0,    1,    6,    99,   100,  104,  1999,      2000,
-                                       3022, 3999, 4000, 4001, 5022, 6000, UINT64_MAX};
+    static const uint64_t numbers[] = {0,    1,    6,    10,   99,   100,  104,  1999,
+                                       2000, 3022, 3999, 4000, 4001, 5022, 6000, UINT64_MAX};
     for (size_t i = 0; i < sizeof numbers / sizeof numbers[0]; i++) {
         uint64_t number = numbers[i];
         printf("number %" PRIu64 ": refused %d, hit %d, wanted %d", number, cot_is_refused(number),
@@ -492,6 +650,9 @@ static void helpers(void)
     for (uint64_t number = 1; number < 100; number++)
         refused += cot_is_refused(number);
     printf("numbers 1 to 99: %d refused\n", refused);
+    for (int i = 0; i < COT_TICKET_BYTES; i++)
+        ticket[i] = (uint8_t)(0xf8 + i);
+    printf("ticket of bytes f8 to ff: %" PRIx64 "\n", cot_ticket(ticket));
 }
 
 int main(void)
@@ -502,6 +663,8 @@ int main(void)
     levelled_sums();
     weights_and_pictures();
     looks();
+    tickets();
+    serials();
     limits();
     not_in_order();
     order_of_tests();

@@ -1,7 +1,7 @@
 //! Lent memory with guard bytes, the calls into libcot.a, and their comparison with the model.
 
-use crate::model::{gauge_of, records_of, Call, Model, Path};
-use crate::model::{GAUGE_BYTES, LINE_BYTES, RECORD_BYTES, SUM_BYTES};
+use crate::model::{gauge_of, number_at, records_of, Call, Model, Path};
+use crate::model::{GAUGE_BYTES, LINE_BYTES, RECORD_BYTES, SUM_BYTES, TICKET_BYTES};
 use crate::random::Random;
 
 #[link(name = "cot", kind = "static")]
@@ -15,6 +15,8 @@ extern "C" {
         lines_len: usize,
         key: u64,
         weight: u64,
+        ticket: *mut u8,
+        ticket_len: usize,
     ) -> u64;
     fn cot_update(
         table: *mut u8,
@@ -36,6 +38,7 @@ extern "C" {
         key: u64,
         picture: *const u8,
         picture_len: usize,
+        ticket: u64,
     ) -> u64;
     fn cot_age(
         table: *mut u8,
@@ -130,14 +133,15 @@ impl Lent {
     }
 }
 
-/// What one call is lent besides a picture. Only a levelled sum is lent the sum; no other call may
-/// change it.
+/// What one call is lent besides a picture. Only a levelled sum is lent the sum, and only a read the
+/// ticket bytes; no other call may change them.
 #[derive(Clone)]
 pub struct Memory {
     pub table: Lent,
     pub gauge: Lent,
     pub lines: Lent,
     pub sum: Lent,
+    pub ticket: Lent,
 }
 
 impl Memory {
@@ -147,6 +151,7 @@ impl Memory {
             gauge: Lent::new(gauge, random),
             lines: Lent::new(lines, random),
             sum: Lent::new(&random.bytes(SUM_BYTES), random),
+            ticket: Lent::new(&random.bytes(TICKET_BYTES), random),
         }
     }
 
@@ -164,34 +169,38 @@ impl Memory {
     }
 
     /// Every buffer with its name.
-    fn named(&self) -> [(&'static str, &Lent); 4] {
+    fn named(&self) -> [(&'static str, &Lent); 5] {
         [
             ("table", &self.table),
             ("gauge", &self.gauge),
             ("lines", &self.lines),
             ("sum", &self.sum),
+            ("ticket", &self.ticket),
         ]
     }
 }
 
 /// Makes the call on the library.
 pub fn library(memory: &mut Memory, call: &Call, picture: Option<&Lent>) -> u64 {
-    let [(table, t), (gauge, g), (lines, l), (sum, s)] = [
+    let [(table, t), (gauge, g), (lines, l), (sum, s), (told, n)] = [
         &mut memory.table,
         &mut memory.gauge,
         &mut memory.lines,
         &mut memory.sum,
+        &mut memory.ticket,
     ]
     .map(|lent| (lent.pointer_mut(), lent.len));
     // SAFETY: each pointer is good for its length, or the length is 0. No two buffers overlap.
     unsafe {
         match call {
-            Call::Read { key, weight } => cot_read(table, t, gauge, g, lines, l, *key, *weight),
+            Call::Read { key, weight } => {
+                cot_read(table, t, gauge, g, lines, l, *key, *weight, told, n)
+            }
             Call::Update { key, weight } => cot_update(table, t, gauge, g, lines, l, *key, *weight),
-            Call::Fill { key, .. } => {
+            Call::Fill { key, ticket, .. } => {
                 let picture = picture.expect("a fill lends a picture");
                 let (picture, p) = (picture.pointer(), picture.len);
-                cot_fill(table, t, gauge, g, lines, l, *key, picture, p)
+                cot_fill(table, t, gauge, g, lines, l, *key, picture, p, *ticket)
             }
             Call::Age => cot_age(table, t, gauge, g, lines, l),
             Call::Fresh => cot_fresh(table, t, gauge, g, lines, l),
@@ -216,17 +225,33 @@ impl<'a> Both<'a> {
         }
     }
 
-    /// Lends the same memory with other lengths of table, gauge and lines. Gives the lengths before.
-    pub fn set_lengths(&mut self, lengths: [usize; 3]) -> [usize; 3] {
-        let mut before = [0; 3];
+    /// Lends the same memory with other lengths of table, gauge, lines and ticket. Gives the lengths
+    /// before.
+    pub fn set_lengths(&mut self, lengths: [usize; 4]) -> [usize; 4] {
+        let mut before = [0; 4];
         for memory in [&mut self.librarys, &mut self.models] {
-            let three = [&mut memory.table, &mut memory.gauge, &mut memory.lines];
-            for ((lent, len), before) in three.into_iter().zip(lengths).zip(&mut before) {
+            let four = [
+                &mut memory.table,
+                &mut memory.gauge,
+                &mut memory.lines,
+                &mut memory.ticket,
+            ];
+            for ((lent, len), before) in four.into_iter().zip(lengths).zip(&mut before) {
                 *before = lent.len;
                 lent.set_len(len);
             }
         }
         before
+    }
+
+    /// The serial in the library's gauge.
+    pub fn serial(&self) -> u64 {
+        gauge_of(self.librarys.gauge.bytes()).2
+    }
+
+    /// The number in the library's ticket bytes. After a wanted it is the ticket.
+    pub fn told(&self) -> u64 {
+        number_at(self.librarys.ticket.bytes(), 0)
     }
 
     /// Makes one call on the library's memory and on the model's, and compares the returned number
@@ -237,6 +262,12 @@ impl<'a> Both<'a> {
         random: &mut Random,
         path: &mut Path,
     ) -> Result<u64, String> {
+        // No byte of a small ticket stands there already, so that each byte written is seen.
+        for at in 0..self.librarys.ticket.len {
+            let byte = random.between(1, 255) as u8;
+            self.librarys.ticket.bytes_mut()[at] = byte;
+            self.models.ticket.bytes_mut()[at] = byte;
+        }
         let before = self.librarys.clone();
         let picture = match call {
             Call::Fill { picture, .. } => Some(Lent::new(picture, random)),
@@ -249,6 +280,7 @@ impl<'a> Both<'a> {
             self.models.gauge.bytes_mut(),
             self.models.lines.bytes_mut(),
             self.models.sum.bytes_mut(),
+            self.models.ticket.bytes_mut(),
         ];
         let expected = self.model.call(lent, call, path).number();
         let found = library(&mut self.librarys, call, picture.as_ref());
@@ -290,7 +322,7 @@ fn difference(name: &str, models: &Lent, librarys: &Lent) -> Option<String> {
         format!("guard byte {} after the {name}", at - end)
     } else if name == "table" {
         let at = at - start;
-        let field = ["key", "heat", "slack", "state"][at % RECORD_BYTES / 8];
+        let field = ["key", "heat", "slack", "state", "ticket"][at % RECORD_BYTES / 8];
         format!("table byte {at} (record {}, {field})", at / RECORD_BYTES)
     } else {
         format!("{name} byte {}", at - start)
@@ -301,15 +333,19 @@ fn difference(name: &str, models: &Lent, librarys: &Lent) -> Option<String> {
     ))
 }
 
-/// The call with its key, weight and picture.
+/// The call with its key, weight, picture and ticket.
 pub fn call_text(call: &Call) -> String {
     match call {
         Call::Read { key, weight } => format!("read of key {key}, weight {weight}"),
         Call::Update { key, weight } => format!("update of key {key}, weight {weight}"),
-        Call::Fill { key, picture } => {
+        Call::Fill {
+            key,
+            picture,
+            ticket,
+        } => {
             let bytes: String = picture.iter().map(|byte| format!("{byte:02x}")).collect();
             format!(
-                "fill of key {key}, picture of {} bytes {bytes}",
+                "fill of key {key}, ticket {ticket}, picture of {} bytes {bytes}",
                 picture.len()
             )
         }
@@ -333,15 +369,15 @@ fn describe(before: &Memory, call: &Call) -> String {
         }
     }
     if gauge.len() == GAUGE_BYTES {
-        let (total, ceiling) = gauge_of(gauge);
-        text += &format!("\n  before: total {total}, ceiling {ceiling}");
+        let (total, ceiling, serial) = gauge_of(gauge);
+        text += &format!("\n  before: total {total}, ceiling {ceiling}, serial {serial}");
     } else {
         text += &format!("\n  before: gauge {gauge:02x?}");
     }
     for (place, record) in records_of(table).iter().enumerate().take(MOST) {
         text += &format!(
-            "\n  before: record {place}: key {} heat {} slack {} state {}",
-            record.key, record.heat, record.slack, record.state
+            "\n  before: record {place}: key {} heat {} slack {} state {} ticket {}",
+            record.key, record.heat, record.slack, record.state, record.ticket
         );
     }
     let count = table.len() / RECORD_BYTES;

@@ -21,11 +21,14 @@ use std::process::exit;
 const SEED: u64 = 20_210_323;
 const CALLS: u64 = 400_000;
 const USAGE: &str = "compare [--seed N] [--calls N] [--verbose] [--fault NAME]";
-const FAULTS: [(&str, Fault); 4] = [
+const FAULTS: [(&str, Fault); 7] = [
     ("admit-equal", Fault::AdmitEqual),
     ("fresh-keeps", Fault::FreshKeeps),
     ("sum-heat", Fault::SumHeat),
     ("look-warms", Fault::LookWarms),
+    ("keeps-ticket", Fault::KeepsTicket),
+    ("ticket-on-hit", Fault::TicketOnHit),
+    ("any-ticket", Fault::AnyTicket),
 ];
 
 /// How often each answer and each step came.
@@ -214,10 +217,11 @@ fn lists_from_fresh(options: &Options, tally: &mut Tally) {
             &mut counts,
         ));
     }
-    tally.steps_came(&lists::STEPS, &counts, options.seed);
+    let steps = [&lists::STEPS[..], &lists::FETCHES].concat();
+    tally.steps_came(&steps, &counts, options.seed);
     tally.end_group(&format!(
-        "(b) {} lists of {calls} calls, looks among them, each from a fresh on any bytes; demand 3 \
-         and the library's levelled sum after each call",
+        "(b) {} lists of {calls} calls, looks and late fills among them, each from a fresh on any \
+         bytes; demand 3, tickets and the library's levelled sum after each call",
         plans.len()
     ));
     if options.verbose {
@@ -237,7 +241,8 @@ fn lists_past_the_limit(options: &Options, tally: &mut Tally) {
         let result = lists::run(seed, number as u64, plan, end, model, &mut counts);
         calls += tally.test(result).unwrap_or(0);
     }
-    tally.steps_came(&lists::STEPS_AT_THE_LIMIT, &counts, options.seed);
+    let steps = [lists::STEPS_AT_THE_LIMIT, lists::FETCHES_AT_THE_LIMIT].concat();
+    tally.steps_came(&steps, &counts, options.seed);
     tally.end_group(&format!(
         "(c) {} lists with reads of 65,535 and looks, each to its aging number {agings}, {calls} \
          calls in all",

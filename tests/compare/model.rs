@@ -1,8 +1,8 @@
-//! The rules of document 01 for the exported calls, with document 02's requests as landed (Ask 1),
-//! and the replay of demand 3.
+//! The rules of document 01 for the exported calls, with document 02's requests as landed (Asks 1
+//! and 2), and the replay of demand 3.
 //!
 //! In document 01's order, and independent of the library's code. Words in quotes are the
-//! documents'.
+//! documents'; document 02's on tickets are those of its Ask 2.
 
 use std::collections::BTreeMap;
 
@@ -12,27 +12,32 @@ use std::collections::BTreeMap;
 
 /// "L is 4,294,967,295."
 pub const L: u64 = 4_294_967_295;
-/// "K records of 32 bytes"
-pub const RECORD_BYTES: usize = 32;
+/// Document 02: records "become 40 bytes".
+pub const RECORD_BYTES: usize = 40;
 /// "C lines of 64 bytes"; a picture has as many.
 pub const LINE_BYTES: usize = 64;
-/// "lends the gauge as 16 bytes"
-pub const GAUGE_BYTES: usize = 16;
+/// Document 02: the gauge "becomes 24 bytes".
+pub const GAUGE_BYTES: usize = 24;
+/// Document 02: "an exported read lends 8 more bytes".
+pub const TICKET_BYTES: usize = 8;
 /// "a number in 8 bytes": what the levelled sum is written into.
 pub const SUM_BYTES: usize = 8;
 /// "K from 1 to 1,024"
 pub const MOST_RECORDS: usize = 1_024;
 /// "1 to 65,535"
 pub const MOST_WEIGHT: u64 = 65_535;
+/// Cause 10, document 02: "when the serial is 9,223,372,036,854,775,808 or more".
+pub const SERIAL_LIMIT: u64 = 9_223_372_036_854_775_808;
 
 /// "A record is four 64-bit unsigned numbers, least significant byte first: key, heat, slack,
-/// state."
+/// state." Document 02: "Records gain a fifth number, the ticket".
 #[derive(Clone, Copy, Debug, PartialEq, Eq)]
 pub struct Record {
     pub key: u64,
     pub heat: u64,
     pub slack: u64,
     pub state: u64,
+    pub ticket: u64,
 }
 
 impl Record {
@@ -61,11 +66,11 @@ impl Record {
     }
 
     /// Step 6 of a read, and a look: "hit with the line number if its line is filled; wanted with
-    /// the number if empty; passed if it has no line".
+    /// the number if empty; passed if it has no line". Document 02: "Wanted carries the ticket".
     fn answer(&self) -> Answer {
         match self.line() {
             Some(line) if self.is_filled() => Answer::Hit(line),
-            Some(line) => Answer::Wanted(line),
+            Some(line) => Answer::Wanted(line, self.ticket),
             None => Answer::Passed,
         }
     }
@@ -109,6 +114,7 @@ pub fn records_of(table: &[u8]) -> Vec<Record> {
             heat: number_at(table, at + 8),
             slack: number_at(table, at + 16),
             state: number_at(table, at + 24),
+            ticket: number_at(table, at + 32),
         })
         .collect()
 }
@@ -121,24 +127,32 @@ pub fn put_records(table: &mut [u8], records: &[Record]) {
         put_number(table, at + 8, record.heat);
         put_number(table, at + 16, record.slack);
         put_number(table, at + 24, record.state);
+        put_number(table, at + 32, record.ticket);
     }
 }
 
-/// "The gauge has two numbers, total and ceiling." "total first, in the same byte order"
-pub fn gauge_of(gauge: &[u8]) -> (u64, u64) {
-    (number_at(gauge, 0), number_at(gauge, 8))
+/// "The gauge has two numbers, total and ceiling." "total first, in the same byte order" Document
+/// 02: "The gauge gains a third number, the serial".
+pub fn gauge_of(gauge: &[u8]) -> (u64, u64, u64) {
+    (
+        number_at(gauge, 0),
+        number_at(gauge, 8),
+        number_at(gauge, 16),
+    )
 }
 
-/// Writes the gauge's two numbers.
-pub fn put_gauge(gauge: &mut [u8], total: u64, ceiling: u64) {
+/// Writes the gauge's three numbers.
+pub fn put_gauge(gauge: &mut [u8], total: u64, ceiling: u64, serial: u64) {
     put_number(gauge, 0, total);
     put_number(gauge, 8, ceiling);
+    put_number(gauge, 16, serial);
 }
 
-/// Every part of "A table is in order when" that does not hold. The sizes are right.
+/// Every part of "A table is in order when" that does not hold. The sizes are right. No part is on
+/// the serial.
 pub fn not_in_order(table: &[u8], gauge: &[u8], lines: &[u8]) -> Path {
     let records = records_of(table);
-    let (total, ceiling) = gauge_of(gauge);
+    let (total, ceiling, _) = gauge_of(gauge);
     let c = (lines.len() / LINE_BYTES) as u64;
     let mut causes = Path::new();
     // "total is at most L"
@@ -157,11 +171,20 @@ pub fn not_in_order(table: &[u8], gauge: &[u8], lines: &[u8]) -> Path {
         causes.push("3: a state over 1 + 2 C");
     }
     // "every free record is all zero"
+    let numbers = |record: &Record| [record.key, record.heat, record.slack, record.ticket];
     if records
         .iter()
-        .any(|record| record.is_free() && (record.key, record.heat, record.slack) != (0, 0, 0))
+        .any(|record| record.is_free() && numbers(record) != [0; 4])
     {
         causes.push("3: a free record not zero");
+    }
+    // Document 02: a ticket "is 0 in a fresh table and for records without a line; a table with
+    // another there is not in order". The free ones are counted above.
+    if records
+        .iter()
+        .any(|record| record.state == TRACKED && record.ticket != 0)
+    {
+        causes.push("3: a ticket without a line");
     }
     // "at most C records are on lines"
     let on_lines = records.iter().filter(|record| record.line().is_some());
@@ -171,18 +194,30 @@ pub fn not_in_order(table: &[u8], gauge: &[u8], lines: &[u8]) -> Path {
     causes
 }
 
-/// One call with what it is given besides the table, the gauge, the lines and the sum.
+/// One call with what it is given besides the table, the gauge, the lines, the sum and a read's
+/// ticket bytes.
 #[derive(Clone, Debug)]
 pub enum Call {
-    Read { key: u64, weight: u64 },
-    Update { key: u64, weight: u64 },
-    Fill { key: u64, picture: Vec<u8> },
+    Read {
+        key: u64,
+        weight: u64,
+    },
+    Update {
+        key: u64,
+        weight: u64,
+    },
+    /// Document 02: "a fill must bring it back", the ticket of wanted.
+    Fill {
+        key: u64,
+        picture: Vec<u8>,
+        ticket: u64,
+    },
     Age,
     Fresh,
     LevelledSum,
 }
 
-/// What a call answers.
+/// What a call answers. Wanted has the line number and the ticket.
 #[derive(Clone, Copy, Debug, PartialEq, Eq)]
 pub enum Answer {
     Refused(u64),
@@ -193,7 +228,7 @@ pub enum Answer {
     Stored,
     Passed,
     Hit(u64),
-    Wanted(u64),
+    Wanted(u64, u64),
 }
 
 impl Answer {
@@ -209,7 +244,7 @@ impl Answer {
             Answer::Stored => 103,
             Answer::Passed => 104,
             Answer::Hit(line) => 2_000 + line,
-            Answer::Wanted(line) => 4_000 + line,
+            Answer::Wanted(line, _) => 4_000 + line,
         }
     }
 }
@@ -231,6 +266,7 @@ struct Cache {
     records: Vec<Record>,
     total: u64,
     ceiling: u64,
+    serial: u64,
     c: u64,
 }
 
@@ -276,6 +312,24 @@ impl Cache {
             used[line as usize] = true;
         }
         used.iter().position(|used| !used).map(|line| line as u64)
+    }
+
+    /// Document 02: "the serial grows by 1 and becomes that record's ticket".
+    fn give_ticket(&mut self, place: usize) {
+        self.serial += 1;
+        self.records[place].ticket = self.serial;
+    }
+
+    /// "A line just taken is empty." Document 02: "Each time a line is taken" a ticket is given.
+    fn take_line(&mut self, place: usize, line: u64) {
+        self.records[place].state = empty_on(line);
+        self.give_ticket(place);
+    }
+
+    /// "that record's state becomes 1", and its ticket is that of "records without a line".
+    fn lose_line(&mut self, place: usize) {
+        self.records[place].state = TRACKED;
+        self.records[place].ticket = 0;
     }
 
     /// **Age.**
@@ -345,6 +399,7 @@ impl Cache {
                     heat: self.ceiling + w,
                     slack: self.ceiling,
                     state: TRACKED,
+                    ticket: 0,
                 };
                 place
             }
@@ -355,11 +410,11 @@ impl Cache {
             if let Some(line) = self.unused_line() {
                 // "with a line used by no record, it takes the lowest such line"
                 path.push("read 5: unused line");
-                self.records[place].state = empty_on(line);
+                self.take_line(place, line);
             } else if self.c > 0 {
                 // "Otherwise, if C is over 0 and its heat is greater than that of the coldest
                 // record on a line (first among equals), it takes that record's line and that
-                // record's state becomes 1. A line just taken is empty."
+                // record's state becomes 1."
                 let with = |record: &Record| record.line().is_some();
                 // Every line is used and there is one at least, so there is such a record.
                 let coldest = self.coldest(with).expect("a record on a line");
@@ -370,8 +425,8 @@ impl Cache {
                         path.push("read 5: coldest first among equals");
                     }
                     let line = self.records[coldest].line().expect("its line");
-                    self.records[place].state = empty_on(line);
-                    self.records[coldest].state = TRACKED;
+                    self.take_line(place, line);
+                    self.lose_line(coldest);
                 } else if own == other {
                     path.push("read 5: equal heat");
                 } else {
@@ -400,7 +455,7 @@ impl Cache {
         let answer = self.records[place].answer();
         path.push(match answer {
             Answer::Hit(_) => "look: hit",
-            Answer::Wanted(_) => "look: wanted",
+            Answer::Wanted(..) => "look: wanted",
             _ => "look: passed, tracked",
         });
         // "the rules then use the first record"
@@ -445,7 +500,7 @@ impl Cache {
     }
 
     /// **Update** of a key with weight w.
-    fn update(&mut self, key: u64, w: u64, path: &mut Path) -> Answer {
+    fn update(&mut self, key: u64, w: u64, keeps_ticket: bool, path: &mut Path) -> Answer {
         // "An untracked key changes nothing; answer: unknown"
         let Some(place) = self.place_of(key) else {
             return Answer::Unknown;
@@ -472,12 +527,20 @@ impl Cache {
                 if self.count_at(other, without) > 1 {
                     path.push("update: hottest first among equals");
                 }
-                self.records[hottest].state = empty_on(line);
-                self.records[place].state = TRACKED;
-            } else if other == own {
-                path.push("update: line kept, equal heat");
+                self.take_line(hottest, line);
+                self.lose_line(place);
             } else {
-                path.push("update: line kept");
+                path.push(if other == own {
+                    "update: line kept, equal heat"
+                } else {
+                    "update: line kept"
+                });
+                // Document 02: "each time an update reaches a class that keeps its line"
+                let ticket = self.records[place].ticket;
+                self.give_ticket(place);
+                if keeps_ticket {
+                    self.records[place].ticket = ticket;
+                }
             }
         } else {
             path.push("update: no line");
@@ -485,8 +548,15 @@ impl Cache {
         Answer::Changed
     }
 
-    /// **Fill** of a key with a picture, which has 64 bytes.
-    fn fill(&mut self, lines: &mut [u8], key: u64, picture: &[u8], path: &mut Path) -> Answer {
+    /// **Fill** of a key with a picture, which has 64 bytes, and a ticket, if one is to be tested.
+    fn fill(
+        &mut self,
+        lines: &mut [u8],
+        key: u64,
+        picture: &[u8],
+        ticket: Option<u64>,
+        path: &mut Path,
+    ) -> Answer {
         // "The key's record is looked up; if there is none, or it has no line, the call ends
         // there with 5"
         let Some(place) = self.place_of(key) else {
@@ -500,6 +570,10 @@ impl Cache {
         // "if the line is filled, with 6"
         if self.records[place].is_filled() {
             return Answer::Refused(6);
+        }
+        // Document 02: "9, a fill with another ticket, tested after 6"
+        if ticket.is_some_and(|ticket| ticket != self.records[place].ticket) {
+            return Answer::Refused(9);
         }
         // "Otherwise the 64 bytes are written into that line's part of the lent lines, and the
         // state becomes filled."
@@ -518,11 +592,16 @@ impl Cache {
 #[derive(Clone, Default)]
 pub struct True {
     pub heat: u64,
-    pub picture: Option<Vec<u8>>,
+    /// With the ticket that its fill brought.
+    pub picture: Option<(Vec<u8>, u64)>,
+    /// The serial that the key's last accepted update found. The tickets up to this one were given
+    /// before that update, all others by it or after it.
+    pub stale: u64,
 }
 
 /// "It keeps a true total, and for every key a true heat and a picture, starting at 0, 0 and
-/// none." A key that is not in the map still has these.
+/// none." A key that is not in the map still has these. For document 02's sentence on the ticket of
+/// a picture it keeps that and the serial of an update too.
 #[derive(Clone, Default)]
 pub struct Replay {
     pub total: u64,
@@ -531,8 +610,9 @@ pub struct Replay {
 
 impl Replay {
     /// "The replay is fed each call's kind, key, weight and picture, and whether it was refused.
-    /// Nothing in the table, gauge or lines is read for it."
-    pub fn feed(&mut self, call: &Call, refused: bool) {
+    /// Nothing in the table, gauge or lines is read for it." Only an update is fed the serial that
+    /// it found, for the sentence on tickets.
+    pub fn feed(&mut self, call: &Call, refused: bool, serial: u64) {
         // "Refused call: no change."
         if refused {
             return;
@@ -564,10 +644,16 @@ impl Replay {
                     kept.heat - weight
                 };
                 kept.picture = None;
+                kept.stale = serial;
             }
             // "Fill: the key's picture becomes the one lent."
-            Call::Fill { key, picture } => {
-                self.keys.entry(*key).or_default().picture = Some(picture.clone());
+            Call::Fill {
+                key,
+                picture,
+                ticket,
+            } => {
+                let kept = self.keys.entry(*key).or_default();
+                kept.picture = Some((picture.clone(), *ticket));
             }
         }
     }
@@ -584,16 +670,12 @@ impl Replay {
         self.keys.get(&key).map_or(0, |kept| kept.heat)
     }
 
-    fn picture(&self, key: u64) -> Option<&[u8]> {
-        self.keys.get(&key).and_then(|kept| kept.picture.as_deref())
-    }
-
     /// "Demand 3 compares these with the table, gauge and lines after the list." Gives the first
     /// clause that does not hold. What is not in quotes here, document 01 does not state in full.
     /// The levelled sum's bound and what follows from the steps come last.
     pub fn compare(&self, table: &[u8], gauge: &[u8], lines: &[u8]) -> Result<(), String> {
         let records = records_of(table);
-        let (total, ceiling) = gauge_of(gauge);
+        let (total, ceiling, serial) = gauge_of(gauge);
         let k = records.len() as u64;
         let tracked: Vec<&Record> = records.iter().filter(|record| !record.is_free()).collect();
 
@@ -646,13 +728,28 @@ impl Replay {
             let line = record.line().expect("its line");
             let at = LINE_BYTES * line as usize;
             let shown = lines.get(at..at + LINE_BYTES);
-            let Some(picture) = self.picture(record.key) else {
+            let kept = self.keys.get(&record.key);
+            let Some((kept, (picture, ticket))) =
+                kept.and_then(|kept| Some((kept, kept.picture.as_ref()?)))
+            else {
                 return Err(format!(
                     "{record:?} shows a picture, and its class has none"
                 ));
             };
-            if shown != Some(picture) {
+            if shown != Some(&picture[..]) {
                 return Err(format!("{record:?} does not show its class's latest fill"));
+            }
+            // Document 02: "a filled line shows a picture whose ticket was given by the last
+            // accepted update of its class, if any, or after it". An update that finds serial s
+            // gives s + 1, if any.
+            if record.ticket != *ticket {
+                return Err(format!("{record:?}: its latest fill brought {ticket}"));
+            }
+            if *ticket <= kept.stale || *ticket > serial {
+                return Err(format!(
+                    "{record:?}: its last update found serial {}, and the serial is {serial}",
+                    kept.stale
+                ));
             }
         }
 
@@ -662,8 +759,9 @@ impl Replay {
             return Err(format!("levelled sum {sum} is over total {total}"));
         }
 
-        // These follow from the steps: a list from fresh leaves the table in order, doubles no key
-        // and no line, and leaves no line unused while a class is without one.
+        // These follow from the steps: a list from fresh leaves the table in order, doubles no key,
+        // no line and no ticket of a line, which are all from 1 to the serial, and leaves no line
+        // unused while a class is without one.
         if let Some(cause) = not_in_order(table, gauge, lines).first() {
             return Err(format!("after the list, {cause}"));
         }
@@ -674,6 +772,14 @@ impl Replay {
         used.sort_unstable();
         if used.windows(2).any(|pair| pair[0] == pair[1]) {
             return Err("two records are on one line".to_string());
+        }
+        let mut tickets: Vec<u64> = with().map(|record| record.ticket).collect();
+        tickets.sort_unstable();
+        if tickets.windows(2).any(|pair| pair[0] == pair[1]) {
+            return Err("two records on lines have one ticket".to_string());
+        }
+        if tickets.first() == Some(&0) || tickets.last().is_some_and(|last| *last > serial) {
+            return Err(format!("a ticket of 0 or over the serial {serial}"));
         }
         if without().count() > 0 && used.len() < lines.len() / LINE_BYTES {
             return Err("a line is unused and a class is without one".to_string());
@@ -706,9 +812,9 @@ pub fn wrong_sizes(table: &[u8], gauge: &[u8], lines: &[u8]) -> Path {
     if lines.len() / LINE_BYTES >= k {
         causes.push("1: C not under K");
     }
-    // "gauge bytes not 16"
+    // "gauge bytes not 16", in document 02 24
     if gauge.len() != GAUGE_BYTES {
-        causes.push("1: gauge bytes not 16");
+        causes.push("1: gauge bytes not 24");
     }
     causes
 }
@@ -735,6 +841,22 @@ fn wrong_sum(sum: &[u8]) -> bool {
     sum.len() != SUM_BYTES
 }
 
+/// A read's own part of cause 1, document 02: 8 more bytes, "another length gives 1".
+pub fn wrong_ticket_bytes(count: usize) -> bool {
+    count != TICKET_BYTES
+}
+
+/// Cause 10, document 02: "a read over 0, update or fill when the serial is
+/// 9,223,372,036,854,775,808 or more".
+pub fn serial_at_limit(call: &Call, serial: u64) -> bool {
+    let tested = match call {
+        Call::Read { weight, .. } => *weight > 0,
+        Call::Update { .. } | Call::Fill { .. } => true,
+        Call::Age | Call::Fresh | Call::LevelledSum => false,
+    };
+    tested && serial >= SERIAL_LIMIT
+}
+
 /// A deliberate fault, by which the comparison shows that it finds one.
 #[derive(Clone, Copy, Debug, PartialEq, Eq)]
 pub enum Fault {
@@ -746,6 +868,12 @@ pub enum Fault {
     SumHeat,
     /// A look takes the steps of a read, with weight 0.
     LookWarms,
+    /// A class that keeps its line in an update keeps its ticket too. The serial grows.
+    KeepsTicket,
+    /// The ticket bytes get the ticket on hit too.
+    TicketOnHit,
+    /// A fill may bring any ticket.
+    AnyTicket,
 }
 
 /// The calls on lent bytes.
@@ -755,17 +883,21 @@ pub struct Model {
 }
 
 impl Model {
-    /// Makes one call on the lent table, gauge, lines and sum. A refused call writes nothing.
+    /// Makes one call on the lent table, gauge, lines, sum and ticket. A refused call writes nothing.
     pub fn call(
         &self,
-        [table, gauge, lines, sum]: [&mut [u8]; 4],
+        [table, gauge, lines, sum, ticket]: [&mut [u8]; 5],
         call: &Call,
         path: &mut Path,
     ) -> Answer {
-        // "Order of tests: 1, then 2 or 4, then 3, 5, 6."
+        // "Order of tests: 1, then 2 or 4, then 3, 5, 6." Document 02: 9 is "tested after 6" and 10
+        // "tested after 3".
         let mut causes = wrong_sizes(table, gauge, lines);
         if matches!(call, Call::LevelledSum) && wrong_sum(sum) {
             causes.push("1: sum bytes not 8");
+        }
+        if matches!(call, Call::Read { .. }) && wrong_ticket_bytes(ticket.len()) {
+            causes.push("1: ticket bytes not 8");
         }
         if !causes.is_empty() {
             if causes.len() == 1 {
@@ -804,11 +936,15 @@ impl Model {
             return Answer::Refused(3);
         }
 
-        let (total, ceiling) = gauge_of(gauge);
+        let (total, ceiling, serial) = gauge_of(gauge);
+        if serial_at_limit(call, serial) {
+            return Answer::Refused(10);
+        }
         let mut cache = Cache {
             records: records_of(table),
             total,
             ceiling,
+            serial,
             c: (lines.len() / LINE_BYTES) as u64,
         };
         let answer = match call {
@@ -819,8 +955,18 @@ impl Model {
                 let admit_on_equal = self.fault == Some(Fault::AdmitEqual);
                 cache.read(*key, *weight, admit_on_equal, path)
             }
-            Call::Update { key, weight } => cache.update(*key, *weight, path),
-            Call::Fill { key, picture } => cache.fill(lines, *key, picture, path),
+            Call::Update { key, weight } => {
+                let keeps_ticket = self.fault == Some(Fault::KeepsTicket);
+                cache.update(*key, *weight, keeps_ticket, path)
+            }
+            Call::Fill {
+                key,
+                picture,
+                ticket,
+            } => {
+                let tested = self.fault != Some(Fault::AnyTicket);
+                cache.fill(lines, *key, picture, tested.then_some(*ticket), path)
+            }
             Call::Age => cache.age(),
             Call::LevelledSum => {
                 let level = if self.fault == Some(Fault::SumHeat) {
@@ -834,14 +980,24 @@ impl Model {
             }
             Call::Fresh => unreachable!("answered before the order is tested"),
         };
-        // A look changes no number, and causes 5 and 6 are found before any changes; so this writes
-        // back the same.
+        // Document 02: the 8 bytes "get the ticket on wanted and otherwise stay".
+        match (answer, call) {
+            (Answer::Wanted(_, own), _) => put_number(ticket, 0, own),
+            (Answer::Hit(_), Call::Read { key, .. }) if self.fault == Some(Fault::TicketOnHit) => {
+                let place = cache.place_of(*key).expect("the record of a hit");
+                put_number(ticket, 0, cache.records[place].ticket);
+            }
+            _ => {}
+        }
+        // A look changes no number, and causes 5, 6 and 9 are found before any changes; so this
+        // writes back the same.
         put_records(table, &cache.records);
-        put_gauge(gauge, cache.total, cache.ceiling);
+        put_gauge(gauge, cache.total, cache.ceiling, cache.serial);
         answer
     }
 
-    /// "Fresh: every table byte and the gauge are zero. The lines keep their bytes."
+    /// "Fresh: every table byte and the gauge are zero. The lines keep their bytes." The serial is in
+    /// the gauge.
     fn fresh(&self, table: &mut [u8], gauge: &mut [u8]) {
         let kept = usize::from(self.fault == Some(Fault::FreshKeeps));
         let count = table.len() - kept;

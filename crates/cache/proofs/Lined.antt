@@ -29,7 +29,7 @@ pub record IsOn (m : Memory) (i n : ℕ) : Type 0 where
   pub few : n < mostRecords
   pub room : lineSize * n + lineSize ≤ length (m .lines)
 
-module _ (m : Memory) (key i n : ℕ) (full : Bool) (fits : LinesFit m) where
+module _ (m : Memory) (key i n : ℕ) (full : Bool) (ticket : ℕ) (fits : LinesFit m) where
   on-record : (r : Record) → i < size m → r ≡ places m i → isLined r ≡ true → lineOf r ≡ n → IsOn m i n
   unfolding isLined lineOf lineTotal lineCount
   on-record r inside is lined line =
@@ -38,15 +38,15 @@ module _ (m : Memory) (key i n : ℕ) (full : Bool) (fits : LinesFit m) where
       let at-line : lineOf (places m i) ≡ n = rw is at line in
       record { inside = inside; lined = rw is at lined; line = at-line; few = omega (arith, fits .lines); room = omega arith }
 
-  pub lined-at : lookup (places m) (size m) key ≡ Lined i n full → IsOn m i n
+  pub lined-at : lookup (places m) (size m) key ≡ Lined i n full ticket → IsOn m i n
   unfolding lookup lookedUp
   lined-at e = found (keyRecord key (places m) (size m)) refl e
     where
-      found : (x : Found) → keyRecord key (places m) (size m) ≡ x → lookedUp x ≡ Lined i n full → IsOn m i n
+      found : (x : Found) → keyRecord key (places m) (size m) ≡ x → lookedUp x ≡ Lined i n full ticket → IsOn m i n
       found Nowhere k e = let z : _≡_ {A = ℕ} 0 1 = cc in absurd (omega arith)
       found (At j r) k e = line (isLined r) refl e
         where
-          line : (b : Bool) → isLined r ≡ b → (if b then Lined j (lineOf r) (isFilled r) else Unlined) ≡ Lined i n full → IsOn m i n
+          line : (b : Bool) → isLined r ≡ b → (if b then Lined j (lineOf r) (isFilled r) (r .ticket) else Unlined) ≡ Lined i n full ticket → IsOn m i n
           line true l e =
               let h = key-found (places m) (size m) key j r k in
               let same : j ≡ i = cc in
@@ -58,5 +58,5 @@ pub without-line : {A : Type 0} (f : Lookup → A) (a : A) → f Untracked ≡ a
     (x : Lookup) → (tagOf the-type x ≡ 0) ⊎ (tagOf the-type x ≡ 1) → f x ≡ a
 without-line f a untracked unlined Untracked h = untracked
 without-line f a untracked unlined Unlined h = unlined
-without-line f a untracked unlined (Lined i n full) (inl h) = absurd (omega arith)
-without-line f a untracked unlined (Lined i n full) (inr h) = absurd (omega arith)
+without-line f a untracked unlined (Lined i n full ticket) (inl h) = absurd (omega arith)
+without-line f a untracked unlined (Lined i n full ticket) (inr h) = absurd (omega arith)

@@ -8,13 +8,14 @@ ghost use Rattle.rules.specs.Bytes.{recordAt, recordCount, lineSize};
 ghost use Rattle.rules.specs.Pass.{sumOf};
 ghost use Rattle.rules.specs.Table.{mostTotal};
 ghost use Rattle.rules.specs.Calls.{mostRecords, lent, left, started, freshOutcome, readOutcome, updateOutcome, fillOutcome, ageOutcome, showLine, levelledOutcome};
-ghost use Rattle.rules.specs.Answers.{numberOf, completionSaid, levelsSaid};
-ghost use Rattle.rules.specs.Numbers.{readNumber, updateNumber, fillNumber, ageNumber, freshSaid, levelledSaid};
+ghost use Rattle.rules.specs.Answers.{numberOf, answerSaid, completionSaid, levelsSaid};
+ghost use Rattle.rules.specs.Numbers.{readSaid, updateNumber, fillNumber, ageNumber, freshSaid, levelledSaid};
 ghost use Rattle.rules.specs.Steps.{outcome, fillSteps, level};
 ghost use Rattle.lines.specs.Room.{LinesFit};
 ghost use Rattle.cache.specs.Room.{LevelsFit};
 ghost use Rattle.cache.specs.AsLent.{AsLent};
 use fields::filled;
+use fields::fresh_gauge;
 use fields::level;
 use records::LINE_SIZE;
 use records::RECORD_SIZE;
@@ -28,6 +29,7 @@ use rules::Levels;
 use rules::Lookup;
 use rules::NO_LINE;
 use rules::Reply;
+use rules::STALE_TICKET;
 use rules::Started;
 use rules::Verdict;
 use rules::WRONG_SIZES;
@@ -68,10 +70,7 @@ pub fn fresh(table: &mut [u8], gauge: Gauge, lines: &[u8]) -> Started
     clear(table);
     Started {
         answer: Completion::Done,
-        gauge: Gauge {
-            total: 0,
-            ceiling: 0,
-        },
+        gauge: fresh_gauge(),
     }
 }
 
@@ -80,7 +79,7 @@ pub fn fresh(table: &mut [u8], gauge: Gauge, lines: &[u8]) -> Started
 // Counts weight pieces of a class, and answers where its picture is. A weight of 0 is a look: it changes nothing.
 pub fn read(table: &mut [u8], gauge: Gauge, lines: &[u8], key: u64, weight: u64) -> Reply
     ensures { λ r. ⌜ (left r (now (table .exit)) (now (lines .entry)) ≡ readOutcome (lent (now (table .entry)) gauge (now (lines .entry))) key weight)
-        × (numberOf (r .answer) ≡ readNumber (lent (now (table .entry)) gauge (now (lines .entry))) key weight) ⌝ }
+        × (answerSaid (r .answer) ≡ readSaid (lent (now (table .entry)) gauge (now (lines .entry))) key weight) ⌝ }
     ensures { λ r. ⌜ numberOf (r .answer) < 2 ^ 64 ⌝ }
 {
     let verdict = read_verdict(table, gauge, lines, weight);
@@ -146,9 +145,16 @@ fn copy_picture(part: &mut [u8], picture: &[u8])
     }
 }
 
-fn fill_steps(table: &mut [u8], gauge: Gauge, lines: &mut [u8], key: u64, picture: &[u8]) -> Answer
+fn fill_steps(
+    table: &mut [u8],
+    gauge: Gauge,
+    lines: &mut [u8],
+    key: u64,
+    picture: &[u8],
+    ticket: u64,
+) -> Answer
     requires { ⌜ (length (now picture) ≡ lineSize) × LinesFit (lent (now table) gauge (now lines)) ⌝ }
-    ensures { λ a. ⌜ outcome a (lent (now (table .exit)) gauge (now (lines .exit))) ≡ fillSteps (lent (now (table .entry)) gauge (now (lines .entry))) key (now (picture .entry)) ⌝ }
+    ensures { λ a. ⌜ outcome a (lent (now (table .exit)) gauge (now (lines .exit))) ≡ fillSteps (lent (now (table .entry)) gauge (now (lines .entry))) key (now (picture .entry)) ticket ⌝ }
     ensures { λ a. ⌜ numberOf a < 2 ^ 64 ⌝ }
 {
     let found = lookup(table, key);
@@ -156,6 +162,7 @@ fn fill_steps(table: &mut [u8], gauge: Gauge, lines: &mut [u8], key: u64, pictur
         place,
         line,
         filled: is_full,
+        ticket: given,
     } = found
     else {
         return Answer::Refused(NO_LINE);
@@ -163,22 +170,32 @@ fn fill_steps(table: &mut [u8], gauge: Gauge, lines: &mut [u8], key: u64, pictur
     if is_full {
         return Answer::Refused(ALREADY_FILLED);
     }
+    if ticket != given {
+        return Answer::Refused(STALE_TICKET);
+    }
     copy_picture(&mut lines[LINE_SIZE * line..], picture);
     let r = record_at(table, place);
     put_record(table, place, filled(r));
     Answer::Stored
 }
 
-// Stores the picture of a class into its line.
-pub fn fill(table: &mut [u8], gauge: Gauge, lines: &mut [u8], key: u64, picture: &[u8]) -> Answer
-    ensures { λ a. ⌜ (outcome a (lent (now (table .exit)) gauge (now (lines .exit))) ≡ fillOutcome (lent (now (table .entry)) gauge (now (lines .entry))) key (now (picture .entry)))
-        × (numberOf a ≡ fillNumber (lent (now (table .entry)) gauge (now (lines .entry))) key (now (picture .entry))) ⌝ }
+// Stores the picture of a class into its line, if it brings the ticket that the class was last given.
+pub fn fill(
+    table: &mut [u8],
+    gauge: Gauge,
+    lines: &mut [u8],
+    key: u64,
+    picture: &[u8],
+    ticket: u64,
+) -> Answer
+    ensures { λ a. ⌜ (outcome a (lent (now (table .exit)) gauge (now (lines .exit))) ≡ fillOutcome (lent (now (table .entry)) gauge (now (lines .entry))) key (now (picture .entry)) ticket)
+        × (numberOf a ≡ fillNumber (lent (now (table .entry)) gauge (now (lines .entry))) key (now (picture .entry)) ticket) ⌝ }
     ensures { λ a. ⌜ numberOf a < 2 ^ 64 ⌝ }
 {
     let verdict = fill_verdict(table, gauge, lines, picture);
     match verdict {
         Verdict::Refused(n) => Answer::Refused(n),
-        Verdict::Accepted => fill_steps(table, gauge, lines, key, picture),
+        Verdict::Accepted => fill_steps(table, gauge, lines, key, picture, ticket),
     }
 }
 
@@ -202,6 +219,7 @@ pub fn show<'a>(
         place: _,
         line,
         filled: has_picture,
+        ticket: _,
     } = lookup(table, key)
     else {
         return stand_in;

@@ -2,10 +2,10 @@
 ghost use mathlib.Core.Path.{_≡_};
 ghost use Prim.Native.Nat.{_<_, _^_};
 ghost use lib.ListN.{length};
-ghost use Rattle.rules.specs.Bytes.{gaugeSize, gaugeAt, putGauge};
+ghost use Rattle.rules.specs.Bytes.{numberSize, gaugeSize, gaugeAt, putGauge};
 ghost use Rattle.rules.specs.Answers.{numberOf, completionNumber};
 ghost use Rattle.rules.specs.Steps.{outcome};
-ghost use Rattle.rules.specs.Calls.{hostLent, exported, readOutcome, updateOutcome, fillOutcome, ageOutcome, exportedFresh, exportedSum};
+ghost use Rattle.rules.specs.Calls.{hostLent, readLent, putTicket, exported, exportedRead, readOutcome, updateOutcome, fillOutcome, ageOutcome, exportedFresh, exportedSum};
 use records::get_u64;
 use records::put_u64;
 use rules::Answer;
@@ -15,9 +15,11 @@ use rules::Levels;
 use rules::WRONG_SIZES;
 
 // The size of a host's gauge, in bytes.
-pub const GAUGE_SIZE: usize = 16;
-// Where its ceiling lies, after the total.
+pub const GAUGE_SIZE: usize = 24;
+// Where its numbers lie in it, after the total.
 const CEILING_AT: usize = 8;
+
+const SERIAL_AT: usize = 16;
 // The size of a number, in bytes.
 const NUMBER_SIZE: usize = 8;
 // What a host is told for done.
@@ -30,6 +32,7 @@ fn gauge_at(bytes: &[u8]) -> Gauge
     Gauge {
         total: get_u64(bytes, 0),
         ceiling: get_u64(bytes, CEILING_AT),
+        serial: get_u64(bytes, SERIAL_AT),
     }
 }
 
@@ -39,6 +42,7 @@ fn put_gauge(bytes: &mut [u8], g: Gauge)
 {
     put_u64(bytes, 0, g.total);
     put_u64(bytes, CEILING_AT, g.ceiling);
+    put_u64(bytes, SERIAL_AT, g.serial);
 }
 
 // The number of an answer.
@@ -53,8 +57,18 @@ fn number_of(a: Answer) -> u64
         Answer::Stored => 103,
         Answer::Passed => 104,
         Answer::Hit(n) => 2000 + n,
-        Answer::Wanted(n) => 4000 + n,
+        Answer::Wanted(n, _) => 4000 + n,
         Answer::Refused(n) => n,
+    }
+}
+
+// Puts the ticket of a wanted into lent bytes.
+fn put_ticket(bytes: &mut [u8], a: Answer)
+    requires { ⌜ length (now bytes) ≡ numberSize ⌝ }
+    ensures { λ _. ⌜ now (bytes .exit) ≡ putTicket (now (bytes .entry)) a ⌝ }
+{
+    if let Answer::Wanted(_, ticket) = a {
+        put_u64(bytes, 0, ticket);
     }
 }
 
@@ -82,7 +96,8 @@ pub extern "C" fn cot_fresh(table: &mut [u8], gauge: &mut [u8], lines: &[u8]) ->
     completion_number(answer)
 }
 
-// Counts weight pieces of a class, and answers where its picture is. A weight of 0 is a look: it changes nothing.
+// Counts weight pieces of a class, and answers where its picture is. A weight of 0 is a look: it changes nothing. The 8 lent bytes get
+// the ticket of a wanted.
 #[no_mangle]
 pub extern "C" fn cot_read(
     table: &mut [u8],
@@ -90,15 +105,20 @@ pub extern "C" fn cot_read(
     lines: &[u8],
     key: u64,
     weight: u64,
+    ticket: &mut [u8],
 ) -> u64
-    ensures { λ n. ⌜ outcome n (hostLent (now (table .exit)) (now (gauge .exit)) (now (lines .entry))) ≡ exported (λ m. readOutcome m key weight) (hostLent (now (table .entry)) (now (gauge .entry)) (now (lines .entry))) ⌝ }
+    ensures { λ n. ⌜ outcome n (readLent (hostLent (now (table .exit)) (now (gauge .exit)) (now (lines .entry))) (now (ticket .exit))) ≡ exportedRead (λ m. readOutcome m key weight) (readLent (hostLent (now (table .entry)) (now (gauge .entry)) (now (lines .entry))) (now (ticket .entry))) ⌝ }
 {
+    if ticket.len() != NUMBER_SIZE {
+        return WRONG_SIZES;
+    }
     if gauge.len() != GAUGE_SIZE {
         return WRONG_SIZES;
     }
     let reply = cache::read(table, gauge_at(gauge), lines, key, weight);
     put_gauge(gauge, reply.gauge);
     let answer = reply.answer;
+    put_ticket(ticket, answer);
     number_of(answer)
 }
 
@@ -122,7 +142,7 @@ pub extern "C" fn cot_update(
     number_of(answer)
 }
 
-// Stores the picture of a class into its line.
+// Stores the picture of a class into its line, if it brings the ticket that the class was last given.
 #[no_mangle]
 pub extern "C" fn cot_fill(
     table: &mut [u8],
@@ -130,13 +150,14 @@ pub extern "C" fn cot_fill(
     lines: &mut [u8],
     key: u64,
     picture: &[u8],
+    ticket: u64,
 ) -> u64
-    ensures { λ n. ⌜ outcome n (hostLent (now (table .exit)) (now (gauge .entry)) (now (lines .exit))) ≡ exported (λ m. fillOutcome m key (now (picture .entry))) (hostLent (now (table .entry)) (now (gauge .entry)) (now (lines .entry))) ⌝ }
+    ensures { λ n. ⌜ outcome n (hostLent (now (table .exit)) (now (gauge .entry)) (now (lines .exit))) ≡ exported (λ m. fillOutcome m key (now (picture .entry)) ticket) (hostLent (now (table .entry)) (now (gauge .entry)) (now (lines .entry))) ⌝ }
 {
     if gauge.len() != GAUGE_SIZE {
         return WRONG_SIZES;
     }
-    number_of(cache::fill(table, gauge_at(gauge), lines, key, picture))
+    number_of(cache::fill(table, gauge_at(gauge), lines, key, picture, ticket))
 }
 
 // Halves every heat, total and ceiling downward and every slack upward.

@@ -11,7 +11,7 @@ use Rattle.rules.specs.Steps.{Outcome}
 use Rattle.rules.specs.Calls.{readOutcome}
 use Rattle.demand.specs.List.{read, rattle, own, nothing}
 use Rattle.rules.specs.Sample.{sampleLent, sampleStart, samplePicture}
-use Rattle.demand.specs.Idle.{MeetsRead, MeetsUpdate, MeetsFill, idleFill, idleUpdate, passingRead, echoingSteps, echoingRead, emptySteps, emptyRead, refusingRead, inventing, inventingTotal, inventingCeiling, reading, leftBy, heardBy, Demand3By}
+use Rattle.demand.specs.Idle.{MeetsRead, MeetsUpdate, MeetsFill, idleFill, idleUpdate, passingRead, echoingSteps, echoingRead, emptySteps, emptyRead, refusingRead, inventing, inventingTotal, inventingCeiling, reading, leftBy, eventsBy, Demand3By}
 use Rattle.demand.proofs.Computing.{computing}
 use Rattle.demand.proofs.EveryList.{demand3}
 
@@ -32,7 +32,7 @@ firstHeatAfter o = places (o .after) 0 .heat
 pub idle-fill-breaks : ¬ MeetsFill idleFill
 unfolding computing idleFill
 idle-fill-breaks meets =
-    let e : _≡_ {A = ℕ} 5 103 = ap answered (meets (readOutcome sampleStart 5 3 .after) 5 (samplePicture 105)) in
+    let e : _≡_ {A = ℕ} 5 103 = ap answered (meets (readOutcome sampleStart 5 3 .after) 5 (samplePicture 105) 1) in
     omega arith
 
 pub idle-update-breaks : ¬ MeetsUpdate idleUpdate
@@ -69,19 +69,19 @@ inventing-ceiling-breaks meets = let e : _≡_ {A = ℕ} 3 0 = ap ceilingAfter (
 
 -- ---- demand 3, of the sample's first read and another of the same class
 pub echoing-breaks-demand3 : ¬ Demand3By echoingRead (reading 5 3 ∷ reading 5 1 ∷ [])
-unfolding computing echoingSteps echoingRead leftBy heardBy
+unfolding computing echoingSteps echoingRead leftBy eventsBy
 echoing-breaks-demand3 d = let e : _≡_ {A = ℕ} 3 4 = d .total in omega arith
 
 pub inventing-total-breaks-demand3 : ¬ Demand3By inventingTotal (reading 5 3 ∷ [])
-unfolding computing inventing inventingTotal leftBy heardBy
+unfolding computing inventing inventingTotal leftBy eventsBy
 inventing-total-breaks-demand3 d = let e : _≡_ {A = ℕ} 4 3 = d .total in omega arith
 
 pub inventing-ceiling-breaks-demand3 : ¬ Demand3By inventingCeiling (reading 5 3 ∷ [])
-unfolding computing inventing inventingCeiling leftBy heardBy
+unfolding computing inventing inventingCeiling leftBy eventsBy
 inventing-ceiling-breaks-demand3 d = let e : 3 * 3 ≤ 3 = d .product in omega arith
 
 -- A read itself meets it, by the theorem.
 pub read-meets-demand3 : Demand3By readOutcome (reading 5 3 ∷ reading 5 1 ∷ [])
-unfolding computing leftBy heardBy
+unfolding computing leftBy eventsBy
 read-meets-demand3 =
     demand3 sampleLent _ _ refl (own (read 5 3) (rattle _) refl (omega arith) (own (read 5 1) (rattle _) refl (omega arith) nothing))

@@ -9,13 +9,13 @@ use Rattle.rules.specs.declared.Gauge.{Gauge}
 use Rattle.rules.specs.declared.Answer.{Answer}
 use Rattle.rules.specs.declared.Answer.the-variants.{Unknown, Passed, Refused}
 use Rattle.rules.specs.Pass.{if_then_else_}
-use Rattle.rules.specs.Table.{Memory, size, withTable, withGauge}
+use Rattle.rules.specs.Table.{Memory, size, withTotal, withCeiling, withTable, withGauge}
 use Rattle.rules.specs.Answers.{noLine, wrongSizes, isRefused}
 use Rattle.rules.specs.Steps.{Outcome, outcome, decayFor, grown, peekSteps, readSteps}
 use Rattle.rules.specs.Calls.{unless, leaving, readVerdict, updateVerdict, fillVerdict, readOutcome, updateOutcome, fillOutcome}
 use Rattle.rules.specs.Replay.{unheard}
 use Rattle.rules.specs.Sample.{sampleStart}
-use Rattle.demand.specs.List.{read, Heard, heard, replay}
+use Rattle.demand.specs.List.{read, Event, event, told, replay}
 use Rattle.demand.specs.Demand3.{Demand3}
 
 -- ---- the contracts
@@ -26,13 +26,13 @@ MeetsRead call = (m : Memory) (key w : ℕ) → call m key w ≡ readOutcome m k
 abbrev pub MeetsUpdate : (Memory → ℕ → ℕ → Outcome Answer Memory) → Type 0
 MeetsUpdate call = (m : Memory) (key w : ℕ) → call m key w ≡ updateOutcome m key w
 
-abbrev pub MeetsFill : (Memory → ℕ → List ℕ → Outcome Answer Memory) → Type 0
-MeetsFill call = (m : Memory) (key : ℕ) (picture : List ℕ) → call m key picture ≡ fillOutcome m key picture
+abbrev pub MeetsFill : (Memory → ℕ → List ℕ → ℕ → Outcome Answer Memory) → Type 0
+MeetsFill call = (m : Memory) (key : ℕ) (picture : List ℕ) (ticket : ℕ) → call m key picture ticket ≡ fillOutcome m key picture ticket
 
 -- ---- the versions
 -- | one that says 5 .. before looking
-unfoldable pub idleFill : Memory → ℕ → List ℕ → Outcome Answer Memory
-idleFill m key picture = unless (fillVerdict m picture) (leaving m) (outcome (Refused noLine) m)
+unfoldable pub idleFill : Memory → ℕ → List ℕ → ℕ → Outcome Answer Memory
+idleFill m key picture ticket = unless (fillVerdict m picture) (leaving m) (outcome (Refused noLine) m)
 
 -- | or unknown before looking
 unfoldable pub idleUpdate : Memory → ℕ → ℕ → Outcome Answer Memory
@@ -71,11 +71,11 @@ inventing invent m key w =
 
 -- a total of one too many
 unfoldable pub inventingTotal : Memory → ℕ → ℕ → Outcome Answer Memory
-inventingTotal = inventing (λ g. record { total = g .total + 1; ceiling = g .ceiling })
+inventingTotal = inventing (λ g. withTotal (g .total + 1) g)
 
 -- the total for a ceiling
 unfoldable pub inventingCeiling : Memory → ℕ → ℕ → Outcome Answer Memory
-inventingCeiling = inventing (λ g. record { total = g .total; ceiling = g .total })
+inventingCeiling = inventing (λ g. withCeiling (g .total) g)
 
 -- ---- demand 3 of a version of read
 -- | 3 by the replay
@@ -92,13 +92,15 @@ unfoldable pub leftBy : (Memory → ℕ → ℕ → Outcome Answer Memory) → M
 leftBy call m [] = m
 leftBy call m (r ∷ rs) = leftBy call (call m (r .key) (r .weight) .after) rs
 
--- what the replay hears of them
-unfoldable pub heardBy : (Memory → ℕ → ℕ → Outcome Answer Memory) → Memory → List Read → List Heard
-heardBy call m [] = []
-heardBy call m (r ∷ rs) =
-    heard (read (r .key) (r .weight)) (isRefused (call m (r .key) (r .weight) .answer))
-    ∷ heardBy call (call m (r .key) (r .weight) .after) rs
+-- and what happened
+unfoldable pub eventsBy : (Memory → ℕ → ℕ → Outcome Answer Memory) → Memory → List Read → List Event
+eventsBy call m [] = []
+eventsBy call m (r ∷ rs) =
+    event (read (r .key) (r .weight)) (isRefused (call m (r .key) (r .weight) .answer)) m
+    ∷ eventsBy call (call m (r .key) (r .weight) .after) rs
 
 -- demand 3 after them, from the sample's start
 abbrev pub Demand3By : (Memory → ℕ → ℕ → Outcome Answer Memory) → List Read → Type 0
-Demand3By call rs = Demand3 (leftBy call sampleStart rs) (replay (unheard (size sampleStart)) (heardBy call sampleStart rs))
+Demand3By call rs =
+    Demand3 (leftBy call sampleStart rs) (replay (unheard (size sampleStart)) (told (eventsBy call sampleStart rs)))
+    (eventsBy call sampleStart rs)

@@ -1,6 +1,7 @@
 // Runs what a Rattle caller can call and nothing else here runs, and prints what each call gives: fresh on memory that is not zero,
-// show, the levelled sum, the calls that are lent the gauge by `&mut`, looks among them, the journal's reader, and a run whose rows
-// have no room.
+// show, the levelled sum, the calls that are lent the gauge by `&mut`, looks among them, a late fill, a serial that is spent, the
+// journal's reader, and a run whose rows have no room.
+use fields::fresh_gauge;
 use journal::read_at;
 use lending::first_two;
 use libc::STDOUT_FILENO;
@@ -11,6 +12,7 @@ use rules::Entry;
 use rules::Gauge;
 use rules::Levels;
 use rules::Reply;
+use rules::SERIAL_LIMIT;
 
 // ---- printing
 
@@ -41,6 +43,7 @@ fn say_gauge(gauge: Gauge) {
     say(b"; gauge");
     say_number(gauge.total);
     say_number(gauge.ceiling);
+    say_number(gauge.serial);
     say(b"\n");
 }
 
@@ -55,9 +58,10 @@ fn say_answer(answer: Answer) {
             say(b"hit");
             say_number(n);
         }
-        Answer::Wanted(n) => {
+        Answer::Wanted(n, ticket) => {
             say(b"wanted");
             say_number(n);
+            say_number(ticket);
         }
         Answer::Refused(n) => {
             say(b"refused");
@@ -89,10 +93,15 @@ fn say_entry(entry: Entry) {
             say_number(key);
             say_number(weight);
         }
-        Entry::Fill { key, picture } => {
+        Entry::Fill {
+            key,
+            picture,
+            ticket,
+        } => {
             say(b"fill");
             say_number(key);
             say_number(picture as u64);
+            say_number(ticket);
         }
         Entry::Age => say(b"age"),
         Entry::Refused(n) => {
@@ -159,9 +168,9 @@ fn age(table: &mut [u8], gauge: Gauge, lines: &[u8]) -> Gauge {
     told(reply)
 }
 
-fn fill(table: &mut [u8], gauge: Gauge, lines: &mut [u8], key: u64, picture: &[u8]) {
+fn fill(table: &mut [u8], gauge: Gauge, lines: &mut [u8], key: u64, picture: &[u8], ticket: u64) {
     say(b"fill: ");
-    let answer = cache::fill(table, gauge, lines, key, picture);
+    let answer = cache::fill(table, gauge, lines, key, picture, ticket);
     say_answer(answer);
     say_gauge(gauge);
 }
@@ -180,21 +189,27 @@ fn sum(table: &[u8], gauge: Gauge, lines: &[u8]) {
 
 // ---- what is run
 
-// Three records and two lines: 5 gets line 0 and is filled, 7 gets line 1, 9 gets none.
-fn reads(table: &mut [u8], gauge: Gauge, lines: &mut [u8], picture: &[u8]) -> Gauge {
+// Three records and two lines: 5 gets line 0 with ticket 1, and is filled.
+fn filled(table: &mut [u8], gauge: Gauge, lines: &mut [u8], picture: &[u8]) -> Gauge {
     let one = read(table, gauge, lines, 5, 3);
-    fill(table, one, lines, 5, picture);
-    let two = read(table, one, lines, 5, 1);
-    let three = read(table, two, lines, 7, 4);
-    read(table, three, lines, 9, 2)
+    fill(table, one, lines, 5, picture, 1);
+    read(table, one, lines, 5, 1)
 }
 
-// 7 cools; an untracked class and two wrong weights change nothing.
-fn updates(table: &mut [u8], gauge: Gauge, lines: &[u8]) -> Gauge {
-    let one = update(table, gauge, lines, 7, 1);
-    let two = update(table, one, lines, 99, 1);
-    let three = read(table, two, lines, 5, 65536);
-    update(table, three, lines, 5, 65536)
+// 7 gets line 1 with ticket 2, 9 gets none. 7 cools and keeps its line with ticket 3, and a fill with ticket 2 comes too late.
+fn late(table: &mut [u8], gauge: Gauge, lines: &mut [u8], picture: &[u8]) -> Gauge {
+    let one = read(table, gauge, lines, 7, 4);
+    let two = read(table, one, lines, 9, 2);
+    let three = update(table, two, lines, 7, 1);
+    fill(table, three, lines, 7, picture, 2);
+    three
+}
+
+// An untracked class and two wrong weights change nothing.
+fn unchanged(table: &mut [u8], gauge: Gauge, lines: &[u8]) -> Gauge {
+    let one = update(table, gauge, lines, 99, 1);
+    let two = read(table, one, lines, 5, 65536);
+    update(table, two, lines, 5, 65536)
 }
 
 // 5 is on a filled line, 7 on an empty one, 9 on none; 42 is untracked. An update of weight 0 is no look.
@@ -206,7 +221,8 @@ fn looks(table: &mut [u8], gauge: Gauge, lines: &[u8]) -> Gauge {
     update(table, four, lines, 5, 0)
 }
 
-// One aging, and one that is refused, since lines of one byte are not whole. Then 9 leaves for 11, which takes 7's line.
+// One aging, and one that is refused, since lines of one byte are not whole. Then 9 leaves for 11, which takes 7's line
+// with ticket 4.
 fn agings(table: &mut [u8], gauge: Gauge, lines: &[u8]) -> Gauge {
     let one = age(table, gauge, lines);
     let two = age(table, one, b"x");
@@ -220,11 +236,18 @@ fn shown(table: &[u8], gauge: Gauge, lines: &[u8]) {
     show(table, gauge, lines, 7);
     show(table, gauge, lines, 42);
     show(table, gauge, b"x", 5);
-    let none = Gauge {
-        total: 0,
-        ceiling: 0,
+    show(table, fresh_gauge(), lines, 5);
+}
+
+// No more tickets can be given: a read is refused, and a look is answered.
+fn spent(table: &mut [u8], gauge: Gauge, lines: &[u8]) {
+    let last = Gauge {
+        total: gauge.total,
+        ceiling: gauge.ceiling,
+        serial: SERIAL_LIMIT,
     };
-    show(table, none, lines, 5);
+    let one = read(table, last, lines, 5, 1);
+    read(table, one, lines, 5, 0);
 }
 
 // Five records, the last free: heats 9, 1, 4 and 2. One record; none; and heats over the total.
@@ -232,18 +255,19 @@ fn sums() {
     let gauge = Gauge {
         total: 20,
         ceiling: 3,
+        serial: 0,
     };
-    let mut five = [0u8; 160];
+    let mut five = [0u8; 200];
     five[8] = 9;
     five[24] = 1;
-    five[40] = 1;
-    five[56] = 1;
-    five[72] = 4;
-    five[88] = 1;
-    five[104] = 2;
-    five[120] = 1;
+    five[48] = 1;
+    five[64] = 1;
+    five[88] = 4;
+    five[104] = 1;
+    five[128] = 2;
+    five[144] = 1;
     sum(&five, gauge, b"");
-    let mut one = [0u8; 32];
+    let mut one = [0u8; 40];
     one[8] = 7;
     one[24] = 1;
     sum(&one, gauge, b"");
@@ -251,6 +275,7 @@ fn sums() {
     let small = Gauge {
         total: 8,
         ceiling: 3,
+        serial: 0,
     };
     sum(&five, small, b"");
 }
@@ -270,26 +295,34 @@ fn pairs(journal: &[u8]) {
 
 // A read, a fill, an update, an aging, a record of unknown form and a short end.
 fn entries() {
-    let mut journal = [0u8; 430];
+    let mut journal = [0u8; 470];
     journal[0] = 1;
     journal[2] = 3;
     journal[3] = 1;
     journal[8] = 5;
-    journal[80] = 3;
-    journal[88] = 7;
-    journal[96] = 9;
-    journal[160] = 2;
-    journal[162] = 2;
-    journal[168] = 6;
-    journal[240] = 4;
-    journal[320] = 9;
+    journal[88] = 3;
+    journal[96] = 7;
+    journal[104] = 9;
+    journal[168] = 8;
+    journal[169] = 7;
+    journal[170] = 6;
+    journal[171] = 5;
+    journal[172] = 4;
+    journal[173] = 3;
+    journal[174] = 2;
+    journal[175] = 1;
+    journal[176] = 2;
+    journal[178] = 2;
+    journal[184] = 6;
+    journal[264] = 4;
+    journal[352] = 9;
     pairs(&journal);
-    say_decoded(read_at(&journal, 160));
-    say_decoded(read_at(&journal, 240));
-    say_decoded(read_at(&journal, 320));
-    say_decoded(read_at(&journal, 400));
-    say_decoded(read_at(&journal, 430));
-    say_decoded(read_at(&journal, 431));
+    say_decoded(read_at(&journal, 176));
+    say_decoded(read_at(&journal, 264));
+    say_decoded(read_at(&journal, 352));
+    say_decoded(read_at(&journal, 440));
+    say_decoded(read_at(&journal, 470));
+    say_decoded(read_at(&journal, 471));
     let tail = [9u8; 100];
     pairs(&tail);
     pairs(b"");
@@ -297,12 +330,9 @@ fn entries() {
 
 // A run of a journal on a fresh cache: how far it came, and its rows.
 fn ran(journal: &[u8], numbered: u64, out: &mut [u8]) {
-    let mut table = [0u8; 96];
+    let mut table = [0u8; 120];
     let mut lines = [0u8; 64];
-    let nothing = Gauge {
-        total: 0,
-        ceiling: 0,
-    };
+    let nothing = fresh_gauge();
     let ended = runner::run(&mut table, nothing, &mut lines, journal, numbered, out);
     let progress = ended.progress;
     if ended.whole {
@@ -320,14 +350,14 @@ fn ran(journal: &[u8], numbered: u64, out: &mut [u8]) {
 
 // Two reads and an aging. The first two rows have 13 bytes each, and a record is run while 92 are left. The last number is 2^64 − 1.
 fn runs() {
-    let mut journal = [0u8; 240];
+    let mut journal = [0u8; 264];
     journal[0] = 1;
     journal[2] = 3;
     journal[8] = 5;
-    journal[80] = 1;
-    journal[82] = 1;
-    journal[88] = 5;
-    journal[160] = 4;
+    journal[88] = 1;
+    journal[90] = 1;
+    journal[96] = 5;
+    journal[176] = 4;
     let mut none = [0u8; 91];
     ran(&journal, 7, &mut none);
     let mut one = [0u8; 104];
@@ -344,26 +374,29 @@ fn main() {
     let dirty = Gauge {
         total: 6,
         ceiling: 7,
+        serial: 8,
     };
-    let mut short = [255u8; 95];
+    let mut short = [255u8; 119];
     start(&mut short, dirty, b"");
-    let mut table = [255u8; 96];
+    let mut table = [255u8; 120];
     let mut lines = [170u8; 128];
     let mut picture = [7u8; 64];
     picture[0] = 1;
     picture[63] = 9;
     let fresh = start(&mut table, dirty, &lines);
-    let warm = reads(&mut table, fresh, &mut lines, &picture);
-    let cool = updates(&mut table, warm, &lines);
-    let looked = looks(&mut table, cool, &lines);
+    let warm = filled(&mut table, fresh, &mut lines, &picture);
+    let cool = late(&mut table, warm, &mut lines, &picture);
+    let same = unchanged(&mut table, cool, &lines);
+    let looked = looks(&mut table, same, &lines);
     let gauge = agings(&mut table, looked, &lines);
     shown(&table, gauge, &lines);
     let mut other = [8u8; 64];
     other[0] = 2;
     other[63] = 3;
-    fill(&mut table, gauge, &mut lines, 11, &other);
+    fill(&mut table, gauge, &mut lines, 11, &other, 4);
     show(&table, gauge, &lines, 11);
     sum(&table, gauge, &lines);
+    spent(&mut table, gauge, &lines);
     sums();
     entries();
     runs();

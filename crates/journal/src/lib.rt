@@ -13,11 +13,13 @@ use rules::SHORT_END;
 use rules::UNKNOWN_FORM;
 
 // The size of a journal record, in bytes.
-pub const ENTRY_SIZE: usize = 80;
-// Where its key and its picture lie in it.
+pub const ENTRY_SIZE: usize = 88;
+// Where its key, its picture and its ticket lie in it.
 const KEY_AT: usize = 8;
 
 const PICTURE_AT: usize = 16;
+
+const TICKET_AT: usize = 80;
 
 // ---- the forms
 
@@ -65,7 +67,7 @@ fn of_form(good: bool, entry: Entry) -> Entry
     Entry::Refused(UNKNOWN_FORM)
 }
 
-// A record of 80 bytes that begins at a position.
+// A whole record that begins at a position.
 fn whole_entry(bytes: &[u8], at: usize) -> Entry
     requires { ⌜ at + entrySize ≤ length (now bytes) ⌝ }
     ensures { λ e. ⌜ e ≡ wholeEntry (now (bytes .entry)) at ⌝ }
@@ -74,19 +76,24 @@ fn whole_entry(bytes: &[u8], at: usize) -> Entry
     let gaps = gaps_zero(bytes, at);
     let weight = weight_at(bytes, at);
     let key = get_u64(bytes, at + KEY_AT);
+    let ticket = get_u64(bytes, at + TICKET_AT);
     if kind == 3 {
-        let picture = at + PICTURE_AT;
-        return of_form(gaps & (weight == 0), Entry::Fill { key, picture });
+        let fill = Entry::Fill {
+            key,
+            picture: at + PICTURE_AT,
+            ticket,
+        };
+        return of_form(gaps & (weight == 0), fill);
     }
     let blank = zeros(bytes, at + PICTURE_AT, LINE_SIZE);
     if kind == 1 {
-        return of_form(gaps & blank, Entry::Read { key, weight });
+        return of_form(gaps & blank & (ticket == 0), Entry::Read { key, weight });
     }
     if kind == 2 {
-        return of_form(gaps & blank, Entry::Update { key, weight });
+        return of_form(gaps & blank & (ticket == 0), Entry::Update { key, weight });
     }
     of_form(
-        (kind == 4) & gaps & (weight == 0) & blank & (key == 0),
+        (kind == 4) & gaps & (weight == 0) & blank & (key == 0) & (ticket == 0),
         Entry::Age,
     )
 }

@@ -1,17 +1,17 @@
 // The calls of a Rattle caller, who lends the gauge: each is updated where it lies. Thin functions over the cache's calls, which take
 // the gauge by value.
 ghost use mathlib.Core.Path.{_≡_};
-ghost use Rattle.rules.specs.Answers.{numberOf};
+ghost use Rattle.rules.specs.Answers.{numberOf, answerSaid};
 ghost use Rattle.rules.specs.Steps.{outcome};
 ghost use Rattle.rules.specs.Calls.{lent, readOutcome, updateOutcome, ageOutcome};
-ghost use Rattle.rules.specs.Numbers.{readNumber, updateNumber, ageNumber};
+ghost use Rattle.rules.specs.Numbers.{readSaid, updateNumber, ageNumber};
 use rules::Answer;
 use rules::Gauge;
 
 // Counts weight pieces of a class, and answers where its picture is. A weight of 0 is a look: it changes nothing.
 pub fn read(table: &mut [u8], gauge: &mut Gauge, lines: &[u8], key: u64, weight: u64) -> Answer
     ensures { λ a. ⌜ (outcome a (lent (now (table .exit)) (now (gauge .exit)) (now (lines .entry))) ≡ readOutcome (lent (now (table .entry)) (now (gauge .entry)) (now (lines .entry))) key weight)
-        × (numberOf a ≡ readNumber (lent (now (table .entry)) (now (gauge .entry)) (now (lines .entry))) key weight) ⌝ }
+        × (answerSaid a ≡ readSaid (lent (now (table .entry)) (now (gauge .entry)) (now (lines .entry))) key weight) ⌝ }
 {
     let before = *gauge;
     let reply = cache::read(table, before, lines, key, weight);

@@ -6,13 +6,15 @@ ghost use Rattle.rules.specs.Bytes.{get64, put64, recordAt, putRecord, recordCo
 use rules::Record;
 
 // The size of a record, in bytes.
-pub const RECORD_SIZE: usize = 32;
+pub const RECORD_SIZE: usize = 40;
 // Where its numbers lie in it, after the key.
 const HEAT_AT: usize = 8;
 
 const SLACK_AT: usize = 16;
 
 const STATE_AT: usize = 24;
+
+const TICKET_AT: usize = 32;
 
 // The size of a line and of a picture, in bytes.
 pub const LINE_SIZE: usize = 64;
@@ -65,6 +67,7 @@ pub fn record_at(table: &[u8], i: usize) -> Record
         heat: get_u64(table, at + HEAT_AT),
         slack: get_u64(table, at + SLACK_AT),
         state: get_u64(table, at + STATE_AT),
+        ticket: get_u64(table, at + TICKET_AT),
     }
 }
 
@@ -78,4 +81,5 @@ pub fn put_record(table: &mut [u8], i: usize, r: Record)
     put_u64(table, at + HEAT_AT, r.heat);
     put_u64(table, at + SLACK_AT, r.slack);
     put_u64(table, at + STATE_AT, r.state);
+    put_u64(table, at + TICKET_AT, r.ticket);
 }

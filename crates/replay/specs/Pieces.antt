@@ -13,7 +13,7 @@ use Rattle.replay.specs.declared.Ran.{Ran}
 
 -- the records of a full piece, its bytes, and the room for its rows
 abbrev pub pieceRecords : ℕ
-pieceRecords = 819
+pieceRecords = 744
 
 abbrev pub pieceSize : ℕ
 pieceSize = entrySize * pieceRecords

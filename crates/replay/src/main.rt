@@ -8,15 +8,21 @@ ghost use Rattle.rules.specs.Table.{freshGauge};
 ghost use Rattle.rules.specs.Calls.{lent, freshOutcome};
 ghost use Rattle.rules.specs.Journal.{goingOn, startRun};
 ghost use Rattle.replay.specs.Pieces.{pieceRecords, pieceSize, rowsSize, RunsPiece, Replays};
+use fields::fresh_gauge;
 use journal::ENTRY_SIZE;
 use libc::STDIN_FILENO;
 use libc::STDOUT_FILENO;
+use records::LINE_SIZE;
+use records::RECORD_SIZE;
 use rows::ROW_SIZE;
 use rules::Gauge;
 use runner::Progress;
 
+// The bytes of the table: K = 3. The lines are one, C = 1.
+const TABLE_SIZE: usize = RECORD_SIZE * 3;
+
 // The records of a full piece, its bytes, and the room for its rows.
-const PIECE_RECORDS: usize = 819;
+const PIECE_RECORDS: usize = 744;
 
 const PIECE_SIZE: usize = ENTRY_SIZE * PIECE_RECORDS;
 
@@ -81,18 +87,14 @@ fn run_fresh(table: &mut [u8], lines: &mut [u8], piece: &mut [u8], out: &mut [u8
     requires { ⌜ (length (now piece) ≡ pieceSize) × (length (now out) ≡ rowsSize) ⌝ }
     ensures { λ t. ⌜ Replays (startRun (freshOutcome (lent (now (table .entry)) freshGauge (now (lines .entry))) .after)) (now (piece .exit)) t (lent (now (table .exit)) (t .progress .gauge) (now (lines .exit))) (now (out .exit)) ⌝ }
 {
-    let nothing = Gauge {
-        total: 0,
-        ceiling: 0,
-    };
-    let started = cache::fresh(table, nothing, lines);
+    let started = cache::fresh(table, fresh_gauge(), lines);
     let gauge = started.gauge;
     run_all(table, gauge, lines, piece, out)
 }
 
 fn main() {
-    let mut table = [0u8; 96]; // K = 3
-    let mut lines = [0u8; 64]; // C = 1
+    let mut table = [0u8; TABLE_SIZE];
+    let mut lines = [0u8; LINE_SIZE];
     let mut piece = [0u8; PIECE_SIZE];
     let mut out = [0u8; ROWS_SIZE];
     run_fresh(&mut table, &mut lines, &mut piece, &mut out);

@@ -33,7 +33,7 @@ word-short Unknown = omega arith
 word-short Stored = omega arith
 word-short Passed = omega arith
 word-short (Hit n) = omega arith
-word-short (Wanted n) = omega arith
+word-short (Wanted n ticket) = omega arith
 word-short (Refused n) = omega (arith, digits-few 20 n)
 
 pub row-short : (number : ℕ) (o : Outcome Answer Memory) → length (printed (rowOf number o)) ≤ rowSize

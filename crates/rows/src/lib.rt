@@ -52,7 +52,7 @@ fn put_word(out: &mut [u8], at: usize, answer: Answer) -> usize
         Answer::Stored => put_bytes(out, at, b"stored"),
         Answer::Passed => put_bytes(out, at, b"passed"),
         Answer::Hit(_) => put_bytes(out, at, b"hit"),
-        Answer::Wanted(_) => put_bytes(out, at, b"wanted"),
+        Answer::Wanted(_, _) => put_bytes(out, at, b"wanted"),
         Answer::Refused(n) => {
             let end = put_bytes(out, at, b"refused-");
             put_digits(out, end, 20, n)

@@ -1,39 +1,54 @@
--- Document 01's "At the edges", and the order of tests where several causes hold, each run on the definitions. Assumes nothing.
-use Prim.Native.Nat.{ℕ, _*_}
+-- Document 01's "At the edges", those of serials and tickets, and the order of tests where several causes hold, each run on the
+-- definitions. Assumes nothing.
+use Prim.Native.Nat.{ℕ, _*_, _≤_, _<_}
 use mathlib.Core.Path.{_≡_, refl}
-use mathlib.Core.Bool.{true, false}
-use mathlib.Core.List.{[], _∷_}
-use lib.ListN.{replicate}
-use Rattle.rules.specs.declared.Answer.the-variants.{Refused}
+use mathlib.Core.Bool.{true, false, and-false}
+use mathlib.Core.Logic.{_≢_}
+use mathlib.Core.List.{List, [], _∷_}
+use native.Mathlib.Omega.{arith}
+use borrow.Author.Tests.{le-ltb, le-leb, eq-eqb, ne-eqb}
+use lib.ListN.{length, replicate}
+use Rattle.rules.specs.declared.Record.{Record}
+use Rattle.rules.specs.declared.Answer.the-variants.{Stored, Refused}
 use Rattle.rules.specs.declared.Verdict.{Verdict}
 use Rattle.rules.specs.declared.Verdict.the-variants.{Accepted}
 use Rattle.rules.specs.Bytes.{recordSize, recordCount, lineSize, lineCount, putRecord}
-use Rattle.rules.specs.Table.{Memory}
-use Rattle.rules.specs.Calls.{lent, sizesGood, updateWeightGood, must, verdict, sizesTest, plainVerdict, readVerdict, updateVerdict, fillVerdict, readOutcome, fillOutcome}
+use Rattle.rules.specs.Table.{Memory, isLined, recordInOrder}
+use Rattle.rules.specs.Calls.{mostWeight, serialLimit, lent, sizesGood, readWeightGood, updateWeightGood, pictureGood, serialGood, must, verdict, sizesTest, orderTest, serialTest, plainVerdict, readVerdict, updateVerdict, fillVerdict, readOutcome, fillOutcome}
+use Rattle.rules.specs.Sample.{gaugeOf, numbers, samplePicture}
 use Rattle.rules.proofs.Computing.{computing}
+use Rattle.rules.proofs.Verdicts.{plain-accepted}
 
 -- a fresh memory of k records and c lines, with a total
 abbrev cleared : ℕ → ℕ → ℕ → Memory
-cleared k c total = lent (replicate (recordSize * k) 0) (record { total = total; ceiling = 0 }) (replicate (lineSize * c) 0)
+cleared k c total = lent (replicate (recordSize * k) 0) (gaugeOf total 0 0) (replicate (lineSize * c) 0)
 
--- the same, with a state in its first record
+-- two records, the first as given and the second free, and one line, at a serial
+abbrev holding : Record → ℕ → Memory
+holding r serial = lent (putRecord (replicate (recordSize * 2) 0) 0 r) (gaugeOf 0 0 serial) (replicate lineSize 0)
+
+-- class 7 in a state
 abbrev stated : ℕ → Memory
-stated s =
-    lent (putRecord (replicate (recordSize * 2) 0) 0 (record { key = 7; heat = 0; slack = 0; state = s }))
-    (record { total = 0; ceiling = 0 })
-    (replicate lineSize 0)
+stated s = holding (numbers 7 0 0 s 0) 0
 
--- ---- | 32,768 table bytes pass; 32,800 give 1.
-pub most-bytes-pass : sizesGood (replicate 32768 0) [] ≡ true
+-- class 7 with ticket 5 on a line that is empty, and on one that is filled
+abbrev atSerial : ℕ → Memory
+atSerial serial = holding (numbers 7 0 0 2 5) serial
+
+abbrev filledAt : ℕ → Memory
+filledAt serial = holding (numbers 7 0 0 3 5) serial
+
+-- ---- | 40,960 table bytes pass and 41,000 give 1 (document 02)
+pub most-bytes-pass : sizesGood (replicate 40960 0) [] ≡ true
 unfolding sizesGood recordCount lineCount
 most-bytes-pass = refl
 
 -- with as many lines as it can have
-pub most-lines-pass : sizesGood (replicate 32768 0) (replicate 65472 0) ≡ true
+pub most-lines-pass : sizesGood (replicate 40960 0) (replicate 65472 0) ≡ true
 unfolding sizesGood recordCount lineCount
 most-lines-pass = refl
 
-pub more-bytes-refused : sizesGood (replicate 32800 0) [] ≡ false
+pub more-bytes-refused : sizesGood (replicate 41000 0) [] ≡ false
 unfolding sizesGood recordCount lineCount
 more-bytes-refused = refl
 
@@ -91,6 +106,51 @@ pub state-4-not : plainVerdict (stated 4) ≡ Verdict.Refused 3
 unfolding computing
 state-4-not = refl
 
+-- ---- | [The ticket] is 0 .. for records without a line; a table with another there is not in order (document 02)
+-- of a free record, and of a tracked one in its lowest byte and in its highest
+pub ticket-without-line :
+    (plainVerdict (holding (numbers 0 0 0 0 1) 9) ≡ Verdict.Refused 3)
+    × (plainVerdict (holding (numbers 7 0 0 1 1) 9) ≡ Verdict.Refused 3)
+    × (plainVerdict (holding (numbers 7 0 0 1 9223372036854775808) 9) ≡ Verdict.Refused 3)
+unfolding computing
+ticket-without-line = (refl, refl, refl)
+
+pub no-ticket-without-line : plainVerdict (holding (numbers 7 0 0 1 0) 9) ≡ Accepted
+unfolding computing
+no-ticket-without-line = refl
+
+-- on a line any ticket is in order, 0 or above the serial
+pub any-ticket-on-line :
+    (plainVerdict (holding (numbers 7 0 0 2 0) 9) ≡ Accepted)
+    × (plainVerdict (holding (numbers 7 0 0 2 10) 9) ≡ Accepted)
+    × (plainVerdict (holding (numbers 7 0 0 3 18446744073709551615) 9) ≡ Accepted)
+unfolding computing
+any-ticket-on-line = (refl, refl, refl)
+
+-- the serial is no part of the order
+pub any-serial : plainVerdict (atSerial 18446744073709551615) ≡ Accepted
+unfolding computing
+any-serial = refl
+
+-- ---- | 10, a read over 0, update or fill when the serial is 9,223,372,036,854,775,808 or more (document 02)
+pub last-serial-passes :
+    (readVerdict (atSerial 9223372036854775807) 1 ≡ Accepted)
+    × (updateVerdict (atSerial 9223372036854775807) 1 ≡ Accepted)
+    × (fillVerdict (atSerial 9223372036854775807) (samplePicture 0) ≡ Accepted)
+unfolding computing
+last-serial-passes = (refl, refl, refl)
+
+pub serial-refused :
+    (readVerdict (atSerial 9223372036854775808) 1 ≡ Verdict.Refused 10)
+    × (updateVerdict (atSerial 9223372036854775808) 1 ≡ Verdict.Refused 10)
+    × (fillVerdict (atSerial 9223372036854775808) (samplePicture 0) ≡ Verdict.Refused 10)
+unfolding computing
+serial-refused = (refl, refl, refl)
+
+pub most-serial-refused : readVerdict (atSerial 18446744073709551615) 65535 ≡ Verdict.Refused 10
+unfolding computing
+most-serial-refused = refl
+
 -- ---- | Order of tests: 1, then 2 or 4, then 3, 5, 6.
 pub sizes-before-weight : readVerdict (cleared 1 1 0) 65536 ≡ Verdict.Refused 1
 unfolding computing
@@ -108,14 +168,73 @@ pub picture-before-order : fillVerdict (stated 4) [] ≡ Verdict.Refused 4
 unfolding computing
 picture-before-order = refl
 
-pub order-before-line : fillOutcome (stated 4) 9 (replicate 64 0) .answer ≡ Refused 3
+pub order-before-line : fillOutcome (stated 4) 9 (samplePicture 0) 0 .answer ≡ Refused 3
 unfolding computing
 order-before-line = refl
 
-pub line-before-filled : fillOutcome (stated 3) 9 (replicate 64 0) .answer ≡ Refused 5
+-- whatever the ticket
+pub line-before-filled : (ticket : ℕ) → fillOutcome (stated 3) 9 (samplePicture 0) ticket .answer ≡ Refused 5
 unfolding computing
-line-before-filled = refl
+line-before-filled ticket = refl
 
-pub filled-last : fillOutcome (stated 3) 7 (replicate 64 0) .answer ≡ Refused 6
+-- | 10, .. tested after 3 (document 02)
+-- and so before 5, 6 and 9
+pub order-before-serial :
+    (readVerdict (holding (numbers 7 0 0 4 5) 9223372036854775808) 1 ≡ Verdict.Refused 3)
+    × (updateVerdict (holding (numbers 7 0 0 4 5) 9223372036854775808) 1 ≡ Verdict.Refused 3)
+    × (fillVerdict (holding (numbers 7 0 0 4 5) 9223372036854775808) (samplePicture 0) ≡ Verdict.Refused 3)
 unfolding computing
-filled-last = refl
+order-before-serial = (refl, refl, refl)
+
+pub serial-before-line : fillOutcome (atSerial 9223372036854775808) 9 (samplePicture 0) 5 .answer ≡ Refused 10
+unfolding computing
+serial-before-line = refl
+
+pub serial-before-filled : fillOutcome (filledAt 9223372036854775808) 7 (samplePicture 0) 5 .answer ≡ Refused 10
+unfolding computing
+serial-before-filled = refl
+
+pub serial-before-ticket : fillOutcome (atSerial 9223372036854775808) 7 (samplePicture 0) 6 .answer ≡ Refused 10
+unfolding computing
+serial-before-ticket = refl
+
+-- | 9, a fill with another ticket, tested after 6 (document 02)
+-- its own or another
+pub filled-before-ticket : (ticket : ℕ) → fillOutcome (filledAt 8) 7 (samplePicture 0) ticket .answer ≡ Refused 6
+unfolding computing
+filled-before-ticket ticket = refl
+
+-- one more, one less, none, the serial, and one that agrees in the lowest byte
+pub ticket-last :
+    (fillOutcome (atSerial 8) 7 (samplePicture 0) 6 .answer ≡ Refused 9)
+    × (fillOutcome (atSerial 8) 7 (samplePicture 0) 4 .answer ≡ Refused 9)
+    × (fillOutcome (atSerial 8) 7 (samplePicture 0) 0 .answer ≡ Refused 9)
+    × (fillOutcome (atSerial 8) 7 (samplePicture 0) 8 .answer ≡ Refused 9)
+    × (fillOutcome (atSerial 8) 7 (samplePicture 0) 261 .answer ≡ Refused 9)
+unfolding computing
+ticket-last = (refl, refl, refl, refl, refl)
+
+pub ticket-brought-back : fillOutcome (atSerial 8) 7 (samplePicture 0) 5 .answer ≡ Stored
+unfolding computing
+ticket-brought-back = refl
+
+-- ---- of any record and any memory
+-- | [The ticket] is 0 .. for records without a line; a table with another there is not in order
+pub ticket-off-line : (total lines : ℕ) (r : Record) → r .state ≤ 1 → r .ticket ≢ 0 → recordInOrder total lines r ≡ false
+unfolding recordInOrder isLined
+ticket-off-line total lines r off some-ticket = rw (le-ltb 1 (r .state) off, ne-eqb (r .ticket) 0 some-ticket, and-false)
+
+-- | 10, a read over 0, update or fill when the serial is 9,223,372,036,854,775,808 or more, tested after 3
+-- where no other test fails
+pub spent-everywhere : (m : Memory) (w : ℕ) (picture : List ℕ) → plainVerdict m ≡ Accepted → 9223372036854775808 ≤ m .gauge .serial →
+    0 < w → w ≤ 65535 → length picture ≡ 64 →
+    (readVerdict m w ≡ Verdict.Refused 10) × (updateVerdict m w ≡ Verdict.Refused 10) × (fillVerdict m picture ≡ Verdict.Refused 10)
+unfolding readVerdict updateVerdict fillVerdict readWeightGood updateWeightGood pictureGood serialGood sizesTest orderTest serialTest verdict
+spent-everywhere m w picture accepted spent weighs light whole =
+    let good = plain-accepted m accepted in
+    let high = le-ltb (m .gauge .serial) serialLimit spent in
+    let low = le-leb w mostWeight light in (
+      rw (good .sizes, good .order, low, ne-eqb w 0 (omega arith), high),
+      rw (good .sizes, good .order, le-leb 1 w weighs, low, high),
+      rw (good .sizes, good .order, eq-eqb (length picture) lineSize whole, high),
+    )

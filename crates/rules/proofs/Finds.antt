@@ -11,14 +11,16 @@ use Rattle.rules.specs.declared.Found.the-variants.{Nowhere, At}
 use Rattle.rules.specs.Table.{isFree, isZero, isTracked, isUnlined, isLined, hasKey, keyRecord, freeRecord, colder, hotter, victim, coldestLined, hottestUnlined}
 use Rattle.rules.proofs.Searches.{both, clash, first-at, first-nowhere, IsBest, best-at, best-nowhere}
 
--- | (all four numbers are 0)
-pub zero-says : (r : Record) → isZero r ≡ true → (r .key ≡ 0) × (r .heat ≡ 0) × (r .slack ≡ 0) × (r .state ≡ 0)
+-- | (all .. numbers are 0)
+pub zero-says : (r : Record) → isZero r ≡ true →
+    (r .key ≡ 0) × (r .heat ≡ 0) × (r .slack ≡ 0) × (r .state ≡ 0) × (r .ticket ≡ 0)
 unfolding isZero
 zero-says r e =
-    let (rest, state) = both _ _ e in
-    let (two, slack) = both _ _ rest in
+    let (four, ticket) = both _ _ e in
+    let (three, state) = both _ _ four in
+    let (two, slack) = both _ _ three in
     let (key, heat) = both _ _ two in
-    (eqb-true _ _ key, eqb-true _ _ heat, eqb-true _ _ slack, eqb-true _ _ state)
+    (eqb-true _ _ key, eqb-true _ _ heat, eqb-true _ _ slack, eqb-true _ _ state, eqb-true _ _ ticket)
 
 -- a place below n with its record, of which something holds
 pub record IsAt (f : ℕ → Record) (n i : ℕ) (r : Record) (P : Record → Type 0) : Type 0 where

@@ -22,11 +22,11 @@ use Rattle.rules.proofs.Words.{IsBytes}
 use Rattle.rules.proofs.Places.{record-zero, zero-bytes}
 use Rattle.rules.proofs.Chosen.{where-most}
 use Rattle.rules.proofs.Verdicts.{first-passes}
-use Rattle.rules.proofs.Invariant.{Sound, Holds}
+use Rattle.rules.proofs.Invariant.{Tracks, Shows, Holds}
 
 module _ (m : Memory) where
   abbrev zero-record : Record
-  zero-record = record { key = 0; heat = 0; slack = 0; state = 0 }
+  zero-record = record { key = 0; heat = 0; slack = 0; state = 0; ticket = 0 }
 
   zero-at : (i : ℕ) → places (freshMemory m) i ≡ zero-record
   unfolding places freshMemory
@@ -37,6 +37,9 @@ module _ (m : Memory) where
 
   zero-heat : (i : ℕ) → places (freshMemory m) i .heat ≡ 0
   zero-heat i = ap (λ (r : Record). r .heat) (zero-at i)
+
+  zero-ticket : (i : ℕ) → places (freshMemory m) i .ticket ≡ 0
+  zero-ticket i = ap (λ (r : Record). r .ticket) (zero-at i)
 
   zero-level : (i : ℕ) → level 0 (places (freshMemory m) i) ≤ 0
   unfolding level isFree
@@ -59,16 +62,17 @@ module _ (m : Memory) where
   unfolding freshMemory
   fresh-bytes = zero-bytes (length (m .table))
 
-  fresh-sound : Sound (places (freshMemory m)) (size (freshMemory m)) (lineTotal (freshMemory m)) (freshMemory m .gauge)
-      (lineAt (freshMemory m .lines)) (unheard (size m))
-  unfolding freshMemory freshGauge unheard isZero filledState
-  fresh-sound =
+  fresh-tracks : Tracks (places (freshMemory m)) (size (freshMemory m)) (lineTotal (freshMemory m)) (freshMemory m .gauge)
+      (unheard (size m))
+  unfolding freshMemory freshGauge unheard isZero
+  fresh-tracks =
       record {
         total-most = omega arith;
         ceiling-most = omega arith;
         heat-most = λ i _. omega (arith, zero-heat i);
         state-most = λ i _. omega (arith, zero-state i);
         free-zero = λ i _ _. rw (zero-at i) refl;
+        unlined-ticket = λ i _ _. zero-ticket i;
         keys-apart = λ i j _ _ tracked. absurd (omega (arith, zero-state i));
         lines-apart = λ i j _ _ lined. absurd (omega (arith, zero-state i));
         not-below = λ i _ tracked. absurd (omega (arith, zero-state i));
@@ -77,28 +81,51 @@ module _ (m : Memory) where
         few = rw fresh-size refl;
         levels = λ chosen _. zero-levels chosen (size (freshMemory m));
         total = refl;
-        latest = λ i line _ e. absurd (omega (arith, zero-state i));
       }
 
-  fresh-kept : sizesGood (m .table) (m .lines) ≡ true → Holds (freshMemory m) (unheard (size m))
+  fresh-shows : Shows (places (freshMemory m)) (size (freshMemory m)) (freshMemory m .gauge .serial) (lineAt (freshMemory m .lines))
+      (unheard (size m) .picture) (λ key. 0)
+  unfolding freshMemory freshGauge filledState
+  fresh-shows =
+      record {
+        latest = λ i line _ e. absurd (omega (arith, zero-state i));
+        ticket-most = λ i _. omega (arith, zero-ticket i);
+        since = λ i _ lined. absurd (omega (arith, zero-state i));
+        stale-most = λ key. omega arith;
+      }
+
+  fresh-kept : sizesGood (m .table) (m .lines) ≡ true → Holds (freshMemory m) (unheard (size m)) (λ key. 0)
+  unfolding freshMemory freshGauge
   fresh-kept good =
       record {
         sizes = fresh-sizes ∙ good;
         bytes = fresh-bytes;
-        sound = fresh-sound;
+        serial-fits = omega arith;
+        tracks = fresh-tracks;
+        shows = fresh-shows;
         full = record { none-waits = λ line _ _ j _. omega (arith, zero-state j) };
         hottest = record { hottest = λ i j _ _ lined. absurd (omega (arith, zero-state i)) };
       }
 
-  pub fresh-holds : freshOutcome m .answer ≡ Done → Holds (freshOutcome m .after) (unheard (size m))
+  pub fresh-holds : freshOutcome m .answer ≡ Done → Holds (freshOutcome m .after) (unheard (size m)) (λ key. 0)
   unfolding freshOutcome sizesTest unless
   fresh-holds done = go (verdict (sizesTest m ∷ [])) refl done
     where
       go : (v : Verdict) → verdict (sizesTest m ∷ []) ≡ v →
           unless v (λ n. outcome (Completion.Refused n) m) (outcome Done (freshMemory m)) .answer ≡ Done →
-          Holds (unless v (λ n. outcome (Completion.Refused n) m) (outcome Done (freshMemory m)) .after) (unheard (size m))
+          Holds (unless v (λ n. outcome (Completion.Refused n) m) (outcome Done (freshMemory m)) .after) (unheard (size m)) (λ key. 0)
       go Accepted e d = fresh-kept (first-passes _ _ e .0)
       go (Verdict.Refused n) e d = let z : _≡_ {A = ℕ} 0 1 = cc in absurd (omega arith)
+
+  -- | [The serial] is 0 in a fresh table
+  pub fresh-serial : freshOutcome m .answer ≡ Done → freshOutcome m .after .gauge .serial ≡ 0
+  unfolding freshOutcome unless freshMemory freshGauge
+  fresh-serial done = go (verdict (sizesTest m ∷ [])) done
+    where
+      go : (v : Verdict) → unless v (λ n. outcome (Completion.Refused n) m) (outcome Done (freshMemory m)) .answer ≡ Done →
+          unless v (λ n. outcome (Completion.Refused n) m) (outcome Done (freshMemory m)) .after .gauge .serial ≡ 0
+      go Accepted d = refl
+      go (Verdict.Refused n) d = let z : _≡_ {A = ℕ} 0 1 = cc in absurd (omega arith)
 
   -- ---- every K and C of the paper
   module _ (k c : ℕ) (sized : OfSizes m k c) where

@@ -1,20 +1,22 @@
 -- What a C host gets of a fresh and of a levelled sum, by their tests in one row and byte by byte: it is told 0 and finds table and
--- gauge zero, or the sum in its 8 bytes; or it is told the first test that fails, and finds every byte as it was. Assumes nothing.
+-- gauge zero, or the sum in its 8 bytes; or it is told the first test that fails, and finds every byte as it was. And that a read with
+-- ticket bytes of another length is refused with 1. Assumes nothing.
 use Prim.Native.Nat.{ℕ}
 use mathlib.Core.Path.{_≡_, refl}
 use mathlib.Core.Bool.{Bool, true, false}
 use mathlib.Core.List.{List, [], _∷_}
+use mathlib.Core.Logic.{_≢_}
 use native.Mathlib.Omega.{arith}
-use borrow.Author.Tests.{eqb-true}
+use borrow.Author.Tests.{eqb-true, ne-eqb}
 use lib.ListN.{length, replicate}
 use lib.Dec.{eqb}
+use Rattle.rules.specs.declared.Answer.{Answer}
 use Rattle.rules.specs.declared.Completion.the-variants.{Done}
 use Rattle.rules.specs.Bytes.{numberSize, get64, put64, gaugeSize, gaugeAt}
-use Rattle.rules.specs.Pass.{if_then_else_}
-use Rattle.rules.specs.Table.{freshGauge, freshMemory}
-use Rattle.rules.specs.Answers.{completionNumber}
+use Rattle.rules.specs.Table.{Memory, freshGauge, freshMemory}
+use Rattle.rules.specs.Answers.{numberOf, completionNumber}
 use Rattle.rules.specs.Steps.{Outcome, outcome, levelledSum}
-use Rattle.rules.specs.Calls.{must, sizesGood, orderGood, verdict, unless, sizesTest, orderTest, plainVerdict, freshOutcome, levelledOutcome, HostMemory, hostLent, held, stored, gaugeTest, exportedFresh, sumTest, putLevels, exportedSum}
+use Rattle.rules.specs.Calls.{must, sizesGood, orderGood, verdict, unless, sizesTest, orderTest, plainVerdict, freshOutcome, levelledOutcome, HostRead, hostedRead, exportedRead, HostMemory, hostLent, held, stored, gaugeTest, exportedFresh, numberTest, putLevels, exportedSum}
 use Rattle.rules.proofs.Words.{IsBytes}
 use Rattle.rules.proofs.Places.{gauge-zeroed, gauge-kept}
 
@@ -61,7 +63,7 @@ module _ (h : HostMemory) where
         (outcome 0 (put64 sum 0 (levelledSum (held h))))
 
     pub host-sum : exportedSum h sum ≡ sumTold
-    unfolding exportedSum levelledOutcome plainVerdict verdict gaugeTest sumTest sizesTest orderTest unless putLevels held
+    unfolding exportedSum levelledOutcome plainVerdict verdict gaugeTest numberTest sizesTest orderTest unless putLevels held
     host-sum = go sized (eqb (length sum) numberSize) good (orderGood (held h)) refl refl refl refl
       where
         go : (a b c d : Bool) → sized ≡ a → eqb (length sum) numberSize ≡ b → good ≡ c → orderGood (held h) ≡ d → exportedSum h sum ≡ sumTold
@@ -70,3 +72,8 @@ module _ (h : HostMemory) where
         go true true false d ea eb ec ed = rw (ea, eb, ec)
         go true true true false ea eb ec ed = rw (ea, eb, ec, ed)
         go true true true true ea eb ec ed = rw (ea, eb, ec, ed)
+
+-- | an exported read lends 8 more bytes (another length gives 1)
+pub ticket-length : (call : Memory → Outcome Answer Memory) (h : HostRead) → length (h .ticket) ≢ 8 → exportedRead call h ≡ outcome 1 h
+unfolding exportedRead hostedRead verdict numberTest unless numberOf
+ticket-length call h other = rw (ne-eqb (length (h .ticket)) numberSize other)

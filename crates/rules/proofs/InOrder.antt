@@ -1,25 +1,24 @@
--- A sound table is in order, so no later good call is refused with 3: its lines are apart, so at most as many records are on lines as
+-- A table that holds what lists keep is in order, so no later good call is refused with 3: its lines are apart, so at most as many records are on lines as
 -- there are lines. And in such a table with fewer lines than records, a read that finds no free record finds a victim.
 -- Assumes nothing.
 use Prim.Native.Nat.{ℕ, zero, suc, _+_, _*_, _-_, _≤_, _<_, min}
 use mathlib.Core.Path.{_≡_}
-use mathlib.Core.Bool.{true, or-true}
-use mathlib.Core.List.{List}
+use mathlib.Core.Bool.{true, _||_, or-true}
 use mathlib.Core.Logic.{_≢_}
 use native.Mathlib.Nat.{le-trans}
 use native.Mathlib.Decide.{decLt, ℕ-discrete}
 use native.Mathlib.Omega.{arith}
-use borrow.Author.Tests.{lt-ltb, le-ltb, le-leb, ltb-false, leb-true}
-use lib.Dec.{ltb}
+use borrow.Author.Tests.{lt-ltb, le-ltb, le-leb, eq-eqb, ltb-false, leb-true}
+use lib.Dec.{ltb, eqb}
 use Rattle.rules.specs.declared.Record.{Record}
 use Rattle.rules.specs.declared.Gauge.{Gauge}
 use Rattle.rules.specs.declared.Found.the-variants.{Nowhere}
 use Rattle.rules.specs.Pass.{if_then_else_, pass, sumOf, countOf}
-use Rattle.rules.specs.Table.{isTracked, isLined, lineOf, recordInOrder, inOrder, freeRecord, victim, mostTotal}
+use Rattle.rules.specs.Table.{isTracked, isLined, isZero, lineOf, recordInOrder, inOrder, freeRecord, victim, mostTotal}
 use Rattle.rules.specs.Replay.{Truth}
 use Rattle.rules.proofs.Searches.{both, all-at, all-of, sum-most, sum-le, count-below}
 use Rattle.rules.proofs.Finds.{free-missing, victim-missing}
-use Rattle.rules.proofs.Invariant.{Sound}
+use Rattle.rules.proofs.Invariant.{Tracks}
 
 -- a sum that has one more than another at no two places is at most one more
 one-more : (a b : Record → ℕ) (f : ℕ → Record) (n : ℕ) → ((i : ℕ) → i < n → a (f i) ≤ b (f i) + 1) →
@@ -86,10 +85,25 @@ lined-most f n c below apart =
               apart i j i-inside j-inside (omega arith) (omega arith) (omega arith)),
         )
 
-pub sound-in-order : (f : ℕ → Record) (n c : ℕ) (g : Gauge) (shown : ℕ → List ℕ) (t : Truth) → Sound f n c g shown t →
-    inOrder f n c g ≡ true
-unfolding inOrder recordInOrder isTracked
-sound-in-order f n c g shown t s =
+tracked-or-zero : (r : Record) → (r .state ≡ 0 → isZero r ≡ true) → (isTracked r || isZero r) ≡ true
+unfolding isTracked
+tracked-or-zero r blank =
+    elim (ℕ-discrete (r .state) 0) [
+      | yes free ↦ rw (blank free) (or-true (ltb 0 (r .state)))
+      | no tracked ↦ rw (lt-ltb 0 (r .state) (omega arith))
+    ]
+
+lined-or-unticketed : (r : Record) → (r .state ≤ 1 → r .ticket ≡ 0) → (isLined r || eqb (r .ticket) 0) ≡ true
+unfolding isLined
+lined-or-unticketed r none =
+    elim (decLt 1 (r .state)) [
+      | yes lined ↦ rw (lt-ltb 1 (r .state) lined)
+      | no off ↦ rw (eq-eqb (r .ticket) 0 (none (omega arith))) (or-true (ltb 1 (r .state)))
+    ]
+
+pub tracks-in-order : (f : ℕ → Record) (n c : ℕ) (g : Gauge) (t : Truth) → Tracks f n c g t → inOrder f n c g ≡ true
+unfolding inOrder recordInOrder
+tracks-in-order f n c g t s =
     rw (
       le-leb (g .total) mostTotal (s .total-most),
       le-leb (g .ceiling) (g .total) (s .ceiling-most),
@@ -102,11 +116,9 @@ sound-in-order f n c g shown t s =
         rw (
           le-leb (f i .heat) (g .total) (s .heat-most i inside),
           le-leb (f i .state) (1 + 2 * c) (s .state-most i inside),
+          tracked-or-zero (f i) (s .free-zero i inside),
         )
-        (elim (ℕ-discrete (f i .state) 0) [
-          | yes free ↦ rw (s .free-zero i inside free) (or-true (ltb 0 (f i .state)))
-          | no tracked ↦ rw (lt-ltb 0 (f i .state) (omega arith))
-        ])
+        (lined-or-unticketed (f i) (s .unlined-ticket i inside))
 
 -- what a table in order has, by place
 pub record Ordered (f : ℕ → Record) (n c : ℕ) (g : Gauge) : Type 0 where
@@ -124,7 +136,8 @@ in-order-says f n c g e =
     let (total, ceiling) = both _ _ gauge in
     let at-place : (i : ℕ) → i < n → (f i .heat ≤ g .total) × (f i .state ≤ 1 + 2 * c) =
     λ i inside.
-    let (sizes, tracked-or-zero) = both _ _ (all-at (recordInOrder (g .total) c) f n records i inside) in
+    let (rest, ticket) = both _ _ (all-at (recordInOrder (g .total) c) f n records i inside) in
+    let (sizes, blank) = both _ _ rest in
     let (heat, state) = both _ _ sizes in
     (leb-true _ _ heat, leb-true _ _ state) in
     record {

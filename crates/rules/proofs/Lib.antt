@@ -8,6 +8,7 @@ pub mod Searches
 pub mod Chosen
 pub mod Invariant
 pub mod Changes
+pub mod Shown
 pub mod SameLines
 pub mod AgeKeeps
 pub mod ReadKeeps
@@ -23,6 +24,7 @@ pub mod ReadHolds
 pub mod UpdateHolds
 pub mod FillHolds
 pub mod Verdicts
+pub mod Serials
 pub mod FreshHolds
 pub mod Refusals
 pub mod Numbers

@@ -1,6 +1,6 @@
 -- What writing a record, aging and storing a picture do to a memory, said by places. Assumes nothing.
 use Prim.Native.Nat.{ℕ, _*_, _≤_, _<_}
-use mathlib.Core.Path.{_≡_, sym, _∙_, fun-ext}
+use mathlib.Core.Path.{_≡_, refl, sym, _∙_, fun-ext}
 use mathlib.Core.Bool.{true}
 use mathlib.Core.List.{List}
 use native.Mathlib.Decide.{ℕ-discrete}
@@ -60,6 +60,10 @@ pub sizes-write : (m : Memory) (i : ℕ) (r : Record) → sizesGood (write m i r
 unfolding write withTable sizesGood
 sizes-write m i r = rw (recordCount-put (m .table) i r, length-putRecord (m .table) i r)
 
+pub gauge-write : (m : Memory) (i : ℕ) (r : Record) → write m i r .gauge ≡ m .gauge
+unfolding write withTable
+gauge-write m i r = refl
+
 pub bytes-write : (m : Memory) (i : ℕ) (r : Record) → IsBytes (m .table) → IsBytes (write m i r .table)
 unfolding write withTable
 bytes-write m i r bytes = putRecord-bytes (m .table) i r bytes
@@ -70,7 +74,7 @@ unfolding agedRecord halfDown halfUp
 aged-is r is =
     let s = is .slack in
     let h = is .heat in
-    record { key = is .key; heat = omega arith; slack = omega arith; state = is .state }
+    record { key = is .key; heat = omega arith; slack = omega arith; state = is .state; ticket = is .ticket }
 
 pub places-aged : (m : Memory) → IsBytes (m .table) → (i : ℕ) → i < size m → places (aged m) i ≡ agedRecord (places m i)
 unfolding places size aged withGauge withTable

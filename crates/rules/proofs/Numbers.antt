@@ -1,7 +1,7 @@
 -- The number and the values of every answer but a read's are those of the specification, by the cases of the tests, of what is found,
 -- or of a journal record's kind. Assumes nothing.
 use Prim.Native.Nat.{ℕ, zero, suc, _+_, _-_, _%_, _<_}
-use mathlib.Core.Path.{_≡_, refl, _∙_, ap}
+use mathlib.Core.Path.{_≡_, refl}
 use mathlib.Core.List.{List, [], _∷_}
 use mathlib.Core.Bool.{Bool, true, false, _&&_, _||_}
 use mathlib.Core.Option.{none, some}
@@ -14,8 +14,7 @@ use Rattle.rules.specs.declared.Found.{Found}
 use Rattle.rules.specs.declared.Found.the-variants.{Nowhere, At}
 use Rattle.rules.specs.declared.Verdict.{Verdict}
 use Rattle.rules.specs.declared.Verdict.the-variants.{Accepted}
-use Rattle.rules.specs.declared.Lookup.{Lookup}
-use Rattle.rules.specs.declared.Lookup.the-variants.{Untracked, Unlined, Lined}
+use Rattle.rules.specs.declared.Lookup.the-variants.{Unlined, Lined}
 use Rattle.rules.specs.declared.Completion.{Completion}
 use Rattle.rules.specs.declared.Levels.{Levels}
 use Rattle.rules.specs.declared.Answer.{Answer}
@@ -23,10 +22,10 @@ use Rattle.rules.specs.declared.Entry.{Entry}
 use Rattle.rules.specs.declared.Entry.the-variants.{Read, Update, Fill, Age, Done}
 use Rattle.rules.specs.Pass.{if_then_else_}
 use Rattle.rules.specs.Table.{Memory, isLined, isFilled, lineOf, keyRecord, lookedUp, lookup, places, size, freshMemory}
-use Rattle.rules.specs.Answers.{numberOf, Said, said, completionSaid, levelsSaid, lookupSaid, entrySaid, noLine, alreadyFilled, unknownForm, shortEnd, readKind, updateKind, fillKind, ageKind}
-use Rattle.rules.specs.Steps.{Outcome, outcome, ageSteps, change, updateSteps, store, fillSteps, levelledSum}
+use Rattle.rules.specs.Answers.{numberOf, said, completionSaid, levelsSaid, lookupSaid, entrySaid, noLine, alreadyFilled, staleTicket, unknownForm, shortEnd, readKind, updateKind, fillKind, ageKind}
+use Rattle.rules.specs.Steps.{Outcome, outcome, ageSteps, change, updateSteps, storeIn, store, fillSteps, levelledSum}
 use Rattle.rules.specs.Calls.{unless, leaving, verdict, sizesTest, plainVerdict, updateVerdict, fillVerdict, freshOutcome, ageOutcome, updateOutcome, fillOutcome, levelledOutcome}
-use Rattle.rules.specs.Journal.{entrySize, kindAt, weightAt, keyAt, picturePlace, gapsZero, pictureZero, weightZero, keyZero, ofForm, wholeEntry, decoded, entryAt}
+use Rattle.rules.specs.Journal.{entrySize, kindAt, weightAt, keyAt, picturePlace, ticketAt, gapsZero, pictureZero, weightZero, keyZero, ticketZero, ofForm, wholeEntry, decoded, entryAt}
 use Rattle.rules.specs.Numbers.{refusal, ageNumber, changeNumber, updateNumber, keySaid, storeNumber, fillNumber, freshSaid, levelledSaid, formGood, formValues, saidAt}
 
 -- ---- by the tests
@@ -75,10 +74,10 @@ looked-up-said Nowhere = refl
 looked-up-said (At i r) = go (isLined r) (eqb (r .state % 2) 1)
   where
     go : (lined odd : Bool) →
-        lookupSaid (if lined then Lined i (lineOf r) (lined && odd) else Unlined)
+        lookupSaid (if lined then Lined i (lineOf r) (lined && odd) (r .ticket) else Unlined)
         ≡ (if lined && odd
-        then said (some alreadyFilled) (i ∷ lineOf r ∷ [])
-        else if lined then said none (i ∷ lineOf r ∷ []) else refusal noLine)
+        then said (some alreadyFilled) (i ∷ lineOf r ∷ r .ticket ∷ [])
+        else if lined then said none (i ∷ lineOf r ∷ r .ticket ∷ []) else refusal noLine)
     go true true = refl
     go true false = refl
     go false odd = refl
@@ -87,65 +86,86 @@ pub lookup-said : (f : ℕ → Record) (n key : ℕ) → lookupSaid (lookup f n 
 unfolding lookup
 lookup-said f n key = looked-up-said (keyRecord key f n)
 
--- what a lookup says is what a fill of such a key is refused with
-store-said : (m : Memory) (picture : List ℕ) (l : Lookup) → numberOf (store m picture l .answer) ≡ storeNumber (lookupSaid l .number)
-unfolding store lookupSaid storeNumber numberOf
-store-said m picture Untracked = refl
-store-said m picture Unlined = refl
-store-said m picture (Lined i n true) = refl
-store-said m picture (Lined i n false) = refl
+store-number : (m : Memory) (picture : List ℕ) (ticket : ℕ) (x : Found) →
+    numberOf (store m picture ticket (lookedUp x) .answer) ≡ storeNumber ticket x
+unfolding lookedUp store storeIn storeNumber isFilled numberOf
+store-number m picture ticket Nowhere = refl
+store-number m picture ticket (At i r) = go (isLined r) (eqb (r .state % 2) 1)
+  where
+    brought : (same : Bool) →
+        numberOf ((if same then storeIn m i (lineOf r) picture else outcome (Answer.Refused staleTicket) m) .answer) ≡ (if same then 103 else 9)
+    brought true = refl
+    brought false = refl
 
-pub fill-number : (m : Memory) (key : ℕ) (picture : List ℕ) → numberOf (fillOutcome m key picture .answer) ≡ fillNumber m key picture
-unfolding fillOutcome fillNumber fillSteps
-fill-number m key picture =
-    unless-number (fillVerdict m picture) m (fillSteps m key picture) _
-    (store-said m picture (lookup (places m) (size m) key) ∙ ap (λ (s : Said). storeNumber (s .number)) (lookup-said (places m) (size m) key))
+    go : (lined odd : Bool) →
+        numberOf (store m picture ticket (if lined then Lined i (lineOf r) (lined && odd) (r .ticket) else Unlined) .answer)
+        ≡ (if lined && odd then 6 else if lined then if eqb ticket (r .ticket) then 103 else 9 else 5)
+    go true true = refl
+    go true false = brought (eqb ticket (r .ticket))
+    go false odd = refl
 
--- ---- by a journal record's kind, and whether its gaps, weight, picture and key are 0
-module _ (k w place : ℕ) where
-  abbrev KindSaid : ℕ → Bool → Bool → Bool → Bool → Type 0
-  KindSaid kind gaps weight picture key =
+pub fill-number : (m : Memory) (key : ℕ) (picture : List ℕ) (ticket : ℕ) →
+    numberOf (fillOutcome m key picture ticket .answer) ≡ fillNumber m key picture ticket
+unfolding fillOutcome fillNumber fillSteps lookup
+fill-number m key picture ticket =
+    unless-number (fillVerdict m picture) m (fillSteps m key picture ticket) _
+    (store-number m picture ticket (keyRecord key (places m) (size m)))
+
+-- ---- by a journal record's kind, and whether its gaps, weight, picture, ticket and key are 0
+module _ (k w place brought : ℕ) where
+  abbrev KindSaid : ℕ → Bool → Bool → Bool → Bool → Bool → Type 0
+  KindSaid kind gaps weight picture ticket key =
       entrySaid
       (if eqb kind readKind
-      then ofForm (gaps && picture) (Read k w)
+      then ofForm (gaps && picture && ticket) (Read k w)
       else if eqb kind updateKind
-      then ofForm (gaps && picture) (Update k w)
+      then ofForm (gaps && picture && ticket) (Update k w)
       else if eqb kind fillKind
-      then ofForm (gaps && weight) (Fill k place)
-      else ofForm (eqb kind ageKind && gaps && weight && picture && key) Age)
-      ≡ (if leb 1 kind && leb kind 4 && gaps && (leb kind 2 || weight) && (eqb kind 3 || picture) && (leb kind 3 || key)
-      then said (some kind) (if leb kind 2 then k ∷ w ∷ [] else if eqb kind 3 then k ∷ place ∷ [] else [])
+      then ofForm (gaps && weight) (Fill k place brought)
+      else ofForm (eqb kind ageKind && gaps && weight && picture && key && ticket) Age)
+      ≡ (if leb 1 kind
+      && leb kind 4
+      && gaps
+      && (leb kind 2 || weight)
+      && (eqb kind 3 || picture)
+      && (eqb kind 3 || ticket)
+      && (leb kind 3 || key)
+      then said (some kind) (if leb kind 2 then k ∷ w ∷ [] else if eqb kind 3 then k ∷ place ∷ brought ∷ [] else [])
       else refusal unknownForm)
 
-  read-said : (gaps weight picture key : Bool) → KindSaid 1 gaps weight picture key
+  read-said : (gaps weight picture ticket key : Bool) → KindSaid 1 gaps weight picture ticket key
   unfolding entrySaid ofForm
-  read-said false weight picture key = refl
-  read-said true weight false key = refl
-  read-said true weight true key = refl
+  read-said false weight picture ticket key = refl
+  read-said true weight false ticket key = refl
+  read-said true weight true false key = refl
+  read-said true weight true true key = refl
 
-  update-said : (gaps weight picture key : Bool) → KindSaid 2 gaps weight picture key
+  update-said : (gaps weight picture ticket key : Bool) → KindSaid 2 gaps weight picture ticket key
   unfolding entrySaid ofForm
-  update-said false weight picture key = refl
-  update-said true weight false key = refl
-  update-said true weight true key = refl
+  update-said false weight picture ticket key = refl
+  update-said true weight false ticket key = refl
+  update-said true weight true false key = refl
+  update-said true weight true true key = refl
 
-  fill-said : (gaps weight picture key : Bool) → KindSaid 3 gaps weight picture key
+  fill-said : (gaps weight picture ticket key : Bool) → KindSaid 3 gaps weight picture ticket key
   unfolding entrySaid ofForm
-  fill-said false weight picture key = refl
-  fill-said true false picture key = refl
-  fill-said true true picture key = refl
+  fill-said false weight picture ticket key = refl
+  fill-said true false picture ticket key = refl
+  fill-said true true picture ticket key = refl
 
-  age-said : (gaps weight picture key : Bool) → KindSaid 4 gaps weight picture key
+  age-said : (gaps weight picture ticket key : Bool) → KindSaid 4 gaps weight picture ticket key
   unfolding entrySaid ofForm
-  age-said false weight picture key = refl
-  age-said true false picture key = refl
-  age-said true true false key = refl
-  age-said true true true false = refl
-  age-said true true true true = refl
+  age-said false weight picture ticket key = refl
+  age-said true false picture ticket key = refl
+  age-said true true false ticket key = refl
+  age-said true true true false false = refl
+  age-said true true true false true = refl
+  age-said true true true true false = refl
+  age-said true true true true true = refl
 
-  other-said : (kind : ℕ) (gaps weight picture key : Bool) → 4 < kind → KindSaid kind gaps weight picture key
+  other-said : (kind : ℕ) (gaps weight picture ticket key : Bool) → 4 < kind → KindSaid kind gaps weight picture ticket key
   unfolding entrySaid ofForm
-  other-said kind gaps weight picture key over =
+  other-said kind gaps weight picture ticket key over =
       rw (
         ne-eqb kind 1 (omega arith),
         ne-eqb kind 2 (omega arith),
@@ -155,14 +175,15 @@ module _ (k w place : ℕ) where
         lt-leb kind 4 over,
       )
 
-  kind-said : (kind : ℕ) (gaps weight picture key : Bool) → KindSaid kind gaps weight picture key
+  kind-said : (kind : ℕ) (gaps weight picture ticket key : Bool) → KindSaid kind gaps weight picture ticket key
   unfolding entrySaid ofForm
-  kind-said zero gaps weight picture key = refl
-  kind-said (suc zero) gaps weight picture key = read-said gaps weight picture key
-  kind-said (suc (suc zero)) gaps weight picture key = update-said gaps weight picture key
-  kind-said (suc (suc (suc zero))) gaps weight picture key = fill-said gaps weight picture key
-  kind-said (suc (suc (suc (suc zero)))) gaps weight picture key = age-said gaps weight picture key
-  kind-said (suc (suc (suc (suc (suc n))))) gaps weight picture key = other-said (suc (suc (suc (suc (suc n))))) gaps weight picture key (omega arith)
+  kind-said zero gaps weight picture ticket key = refl
+  kind-said (suc zero) gaps weight picture ticket key = read-said gaps weight picture ticket key
+  kind-said (suc (suc zero)) gaps weight picture ticket key = update-said gaps weight picture ticket key
+  kind-said (suc (suc (suc zero))) gaps weight picture ticket key = fill-said gaps weight picture ticket key
+  kind-said (suc (suc (suc (suc zero)))) gaps weight picture ticket key = age-said gaps weight picture ticket key
+  kind-said (suc (suc (suc (suc (suc n))))) gaps weight picture ticket key =
+      other-said (suc (suc (suc (suc (suc n))))) gaps weight picture ticket key (omega arith)
 
 pub entry-said : (j : List ℕ) (at : ℕ) → entrySaid (entryAt j at .entry) ≡ saidAt j at
 unfolding entryAt decoded wholeEntry saidAt formGood formValues entrySaid
@@ -177,4 +198,6 @@ entry-said j at = go (leb (length j) at) (ltb (length j - at) entrySize)
         else if formGood j at then said (some (kindAt j at)) (formValues j at) else refusal unknownForm)
     go true few = refl
     go false true = refl
-    go false false = kind-said (keyAt j at) (weightAt j at) (picturePlace at) (kindAt j at) (gapsZero j at) (weightZero j at) (pictureZero j at) (keyZero j at)
+    go false false =
+        kind-said (keyAt j at) (weightAt j at) (picturePlace at) (ticketAt j at) (kindAt j at)
+        (gapsZero j at) (weightZero j at) (pictureZero j at) (ticketZero j at) (keyZero j at)

@@ -19,13 +19,13 @@ use Rattle.rules.specs.declared.Answer.the-variants.{Passed, Hit, Wanted
 use Rattle.rules.specs.Pass.{if_then_else_}
 use Rattle.rules.specs.Table.{Memory, isLined, isFilled, lineOf, lookedUp, lookup, keyRecord, places, size}
 use Rattle.rules.specs.Steps.{Outcome, readAnswer, warmSteps, peekAnswer, peekSteps, readSteps, shownLine}
-use Rattle.rules.specs.Calls.{verdict, unless, leaving, plainVerdict, readWeightGood, readVerdict, readOutcome, showLine}
+use Rattle.rules.specs.Calls.{verdict, serialTest, unless, leaving, plainVerdict, readWeightGood, readVerdict, readOutcome, showLine}
 use Rattle.rules.specs.Replay.{Truth, warmTruth, readTruth}
 
 -- | A read of weight 0 is now accepted.
 -- where the sizes and the order are good
 pub peek-verdict : (m : Memory) → readVerdict m 0 ≡ plainVerdict m
-unfolding readVerdict readWeightGood plainVerdict verdict
+unfolding readVerdict readWeightGood serialTest plainVerdict verdict
 peek-verdict m = refl
 
 -- | Read of a key with weight w, .. 1 to 65,535
@@ -76,8 +76,8 @@ unfolding readAnswer lookedUp shownLine isFilled
 record-shows n i r = go (isLined r) (eqb (r .state % 2) 1)
   where
     go : (lined odd : Bool) →
-        Agree n (if lined && odd then Hit (lineOf r) else if lined then Wanted (lineOf r) else Passed)
-        (shownLine (if lined then Lined i (lineOf r) (lined && odd) else Unlined))
+        Agree n (if lined && odd then Hit (lineOf r) else if lined then Wanted (lineOf r) (r .ticket) else Passed)
+        (shownLine (if lined then Lined i (lineOf r) (lined && odd) (r .ticket) else Unlined))
     go true true = (λ e. cc, λ e. cc)
     go true false = not-shown n _ (λ e. let z : _≡_ {A = ℕ} 0 1 = cc in omega arith)
     go false odd = not-shown n _ (λ e. let z : _≡_ {A = ℕ} 0 1 = cc in omega arith)

@@ -18,7 +18,7 @@ use Rattle.rules.specs.Answers.{readKind, updateKind, fillKind}
 use Rattle.rules.specs.Bytes.{get64, lineSize}
 use Rattle.rules.specs.Pass.{if_then_else_}
 use Rattle.rules.specs.Table.{Memory}
-use Rattle.rules.specs.Journal.{Row, Run, entrySize, entryCount, kindAt, weightAt, keyAt, zeros, gapsZero, pictureZero, weightZero, keyZero, picturePlace, pictureAt, ofForm, wholeEntry, decoded, entryAt, rowOf, printing, performed, isEnd, perform, runFor, goingOn, Joined}
+use Rattle.rules.specs.Journal.{Row, Run, entrySize, entryCount, kindAt, weightAt, keyAt, ticketAt, zeros, gapsZero, pictureZero, weightZero, keyZero, ticketZero, picturePlace, pictureAt, ofForm, wholeEntry, decoded, entryAt, rowOf, printing, performed, isEnd, perform, runFor, goingOn, Joined}
 
 -- ---- one record, at p of a journal and at q of another
 -- both do the same, and the place after it differs by as much as the place before
@@ -44,19 +44,27 @@ module _ (j : List ℕ) (p : ℕ) (k : List ℕ) (q : ℕ) (same : (i : ℕ) →
   unfolding weightAt
   weight-same = rw (same 2 (omega arith), same 3 (omega arith))
 
-  key-same : keyAt j p ≡ keyAt k q
-  unfolding keyAt get64
-  key-same =
+  number-same : (o : ℕ) → o + 8 ≤ entrySize → get64 j (p + o) ≡ get64 k (q + o)
+  unfolding get64
+  number-same o room =
       rw (
-        same 8 (omega arith),
-        byte 8 1 (omega arith),
-        byte 8 2 (omega arith),
-        byte 8 3 (omega arith),
-        byte 8 4 (omega arith),
-        byte 8 5 (omega arith),
-        byte 8 6 (omega arith),
-        byte 8 7 (omega arith),
+        same o (omega arith),
+        byte o 1 (omega arith),
+        byte o 2 (omega arith),
+        byte o 3 (omega arith),
+        byte o 4 (omega arith),
+        byte o 5 (omega arith),
+        byte o 6 (omega arith),
+        byte o 7 (omega arith),
       )
+
+  key-same : keyAt j p ≡ keyAt k q
+  unfolding keyAt
+  key-same = number-same 8 (omega arith)
+
+  ticket-same : ticketAt j p ≡ ticketAt k q
+  unfolding ticketAt
+  ticket-same = number-same 80 (omega arith)
 
   zeros-same : (o n : ℕ) → o + n ≤ entrySize → zeros j (p + o) n ≡ zeros k (q + o) n
   unfolding zeros
@@ -84,12 +92,12 @@ module _ (j : List ℕ) (p : ℕ) (k : List ℕ) (q : ℕ) (same : (i : ℕ) →
   same-arm false x y x′ y′ first rest = rest
 
   whole-same : Same (wholeEntry j p) (wholeEntry k q)
-  unfolding wholeEntry weightZero keyZero isEnd performed
+  unfolding wholeEntry weightZero keyZero ticketZero isEnd performed
   whole-same =
-      rw (← kind-same, ← gaps-same, ← blank-same, ← weight-same, ← key-same)
+      rw (← kind-same, ← gaps-same, ← blank-same, ← weight-same, ← key-same, ← ticket-same)
       (same-arm (eqb (kindAt j p) readKind) _ _ _ _ (same-form _ (Read _ _) (Read _ _) (refl, λ m. refl))
       (same-arm (eqb (kindAt j p) updateKind) _ _ _ _ (same-form _ (Update _ _) (Update _ _) (refl, λ m. refl))
-      (same-arm (eqb (kindAt j p) fillKind) _ _ _ _ (same-form _ (Fill _ _) (Fill _ _) (refl, λ m. rw picture))
+      (same-arm (eqb (kindAt j p) fillKind) _ _ _ _ (same-form _ (Fill _ _ _) (Fill _ _ _) (refl, λ m. rw picture))
       (same-form _ Age Age (refl, λ m. refl)))))
 
   whole-alike : (shift : ℕ) → p ≡ shift + q → p + entrySize ≤ length j → q + entrySize ≤ length k → Alike j p k q shift
@@ -197,7 +205,7 @@ unfolding wholeEntry isEnd
 whole-goes j p =
     arm-goes (eqb (kindAt j p) readKind) _ _ (form-goes _ (Read _ _) refl)
     (arm-goes (eqb (kindAt j p) updateKind) _ _ (form-goes _ (Update _ _) refl)
-    (arm-goes (eqb (kindAt j p) fillKind) _ _ (form-goes _ (Fill _ _) refl) (form-goes _ Age refl)))
+    (arm-goes (eqb (kindAt j p) fillKind) _ _ (form-goes _ (Fill _ _ _) refl) (form-goes _ Age refl)))
 
 piece-ends : (a : List ℕ) (r : Run) (n : ℕ) → r .at ≡ 0 → entrySize * n ≤ length a → runFor a r n .at ≡ entrySize * n
 unfolding runFor perform printing decoded

@@ -12,16 +12,17 @@ use lib.Dec.{lit<}
 use lib.Seq.{getD-drop, take-at, drop-at, length-take-le, take-append-le, drop-append-le, drop-append-add, drop-drop}
 use Rattle.rules.specs.declared.Record.{Record}
 use Rattle.rules.specs.declared.Gauge.{Gauge}
-use Rattle.rules.specs.Bytes.{get64, put64, recordSize, heatPlace, slackPlace, statePlace, ceilingPlace, recordAt, putRecord, recordCount, lineSize, lineAt, putLine, lineCount, gaugeSize, gaugeAt, putGauge}
+use Rattle.rules.specs.Bytes.{get64, put64, recordSize, heatPlace, slackPlace, statePlace, ticketPlace, ceilingPlace, serialPlace, recordAt, putRecord, recordCount, lineSize, lineAt, putLine, lineCount, gaugeSize, gaugeAt, putGauge}
 use Rattle.rules.specs.Table.{changeAll, freshGauge}
 use Rattle.rules.proofs.Words.{IsBytes, bytes8, put64-over, length-put64, get-put64-same, get-put64-other, put64-bytes, get64-below, put-get64}
 
--- four 64-bit numbers
+-- 64-bit numbers
 pub record IsRecord (r : Record) : Type 0 where
   pub key : r .key < 2 ^ 64
   pub heat : r .heat < 2 ^ 64
   pub slack : r .slack < 2 ^ 64
   pub state : r .state < 2 ^ 64
+  pub ticket : r .ticket < 2 ^ 64
 
 -- ---- records
 pub length-putRecord : (t : List ℕ) (i : ℕ) (r : Record) → length (putRecord t i r) ≡ length t
@@ -35,7 +36,7 @@ recordCount-put t i r = rw length-putRecord
 pub putRecord-bytes : (t : List ℕ) (i : ℕ) (r : Record) → IsBytes t → IsBytes (putRecord t i r)
 unfolding putRecord
 putRecord-bytes t i r bytes =
-    put64-bytes _ _ _ (put64-bytes _ _ _ (put64-bytes _ _ _ (put64-bytes _ _ _ bytes)))
+    put64-bytes _ _ _ (put64-bytes _ _ _ (put64-bytes _ _ _ (put64-bytes _ _ _ (put64-bytes _ _ _ bytes))))
 
 pub recordAt-is : (t : List ℕ) (i : ℕ) → IsBytes t → IsRecord (recordAt t i)
 unfolding recordAt
@@ -45,6 +46,7 @@ recordAt-is t i bytes =
       heat = get64-below t _ bytes;
       slack = get64-below t _ bytes;
       state = get64-below t _ bytes;
+      ticket = get64-below t _ bytes;
     }
 
 -- two places apart are one before the other
@@ -56,46 +58,66 @@ pub record-inside : (t : List ℕ) (i : ℕ) → i < recordCount t → recordSiz
 unfolding recordCount
 record-inside t i h = omega arith
 
--- four numbers put one after the other from a place
-abbrev row : List ℕ → ℕ → ℕ → ℕ → ℕ → ℕ → List ℕ
-row t a k h s e = put64 (put64 (put64 (put64 t a k) (a + heatPlace) h) (a + slackPlace) s) (a + statePlace) e
+-- a record's numbers put one after the other from a place
+abbrev row : List ℕ → ℕ → Record → List ℕ
+row t a r =
+    put64
+    (put64
+    (put64
+    (put64
+    (put64 t a (r .key))
+    (a + heatPlace) (r .heat))
+    (a + slackPlace) (r .slack))
+    (a + statePlace) (r .state))
+    (a + ticketPlace) (r .ticket)
 
-row-elsewhere : (t : List ℕ) (a k h s e b : ℕ) → (b + 8 ≤ a) ⊎ (a + recordSize ≤ b) → get64 (row t a k h s e) b ≡ get64 t b
-row-elsewhere t a k h s e b apart =
+row-elsewhere : (t : List ℕ) (a : ℕ) (r : Record) (b : ℕ) → (b + 8 ≤ a) ⊎ (a + recordSize ≤ b) → get64 (row t a r) b ≡ get64 t b
+row-elsewhere t a r b apart =
     let past : (x : ℕ) → x + 8 ≤ recordSize → (b + 8 ≤ a + x) ⊎ (a + x + 8 ≤ b) =
     λ x small. ⊎-elim (λ l. inl (omega arith)) (λ l. inr (omega arith)) apart in
     rw (
-      get-put64-other _ (a + statePlace) e b (past statePlace (omega arith)),
-      get-put64-other _ (a + slackPlace) s b (past slackPlace (omega arith)),
-      get-put64-other _ (a + heatPlace) h b (past heatPlace (omega arith)),
+      get-put64-other _ (a + ticketPlace) (r .ticket) b (past ticketPlace (omega arith)),
+      get-put64-other _ (a + statePlace) (r .state) b (past statePlace (omega arith)),
+      get-put64-other _ (a + slackPlace) (r .slack) b (past slackPlace (omega arith)),
+      get-put64-other _ (a + heatPlace) (r .heat) b (past heatPlace (omega arith)),
     )
-    (get-put64-other t a k b (⊎-elim (λ l. inl l) (λ l. inr (omega arith)) apart))
+    (get-put64-other t a (r .key) b (⊎-elim (λ l. inl l) (λ l. inr (omega arith)) apart))
 
-module _ (t : List ℕ) (a k h s e : ℕ) (room : a + recordSize ≤ length t) where
-  row-key : k < 2 ^ 64 → get64 (row t a k h s e) a ≡ k
+module _ (t : List ℕ) (a : ℕ) (r : Record) (room : a + recordSize ≤ length t) where
+  row-key : r .key < 2 ^ 64 → get64 (row t a r) a ≡ r .key
   row-key fits =
       rw (
-        get-put64-other _ (a + statePlace) e a (inl (omega arith)),
-        get-put64-other _ (a + slackPlace) s a (inl (omega arith)),
-        get-put64-other _ (a + heatPlace) h a (inl (omega arith)),
+        get-put64-other _ (a + ticketPlace) (r .ticket) a (inl (omega arith)),
+        get-put64-other _ (a + statePlace) (r .state) a (inl (omega arith)),
+        get-put64-other _ (a + slackPlace) (r .slack) a (inl (omega arith)),
+        get-put64-other _ (a + heatPlace) (r .heat) a (inl (omega arith)),
       )
-      (get-put64-same t a k (omega arith) fits)
+      (get-put64-same t a (r .key) (omega arith) fits)
 
-  row-heat : h < 2 ^ 64 → get64 (row t a k h s e) (a + heatPlace) ≡ h
+  row-heat : r .heat < 2 ^ 64 → get64 (row t a r) (a + heatPlace) ≡ r .heat
   row-heat fits =
       rw (
-        get-put64-other _ (a + statePlace) e (a + heatPlace) (inl (omega arith)),
-        get-put64-other _ (a + slackPlace) s (a + heatPlace) (inl (omega arith)),
+        get-put64-other _ (a + ticketPlace) (r .ticket) (a + heatPlace) (inl (omega arith)),
+        get-put64-other _ (a + statePlace) (r .state) (a + heatPlace) (inl (omega arith)),
+        get-put64-other _ (a + slackPlace) (r .slack) (a + heatPlace) (inl (omega arith)),
       )
-      (get-put64-same _ (a + heatPlace) h (simp length-put64 (omega arith)) fits)
+      (get-put64-same _ (a + heatPlace) (r .heat) (simp length-put64 (omega arith)) fits)
 
-  row-slack : s < 2 ^ 64 → get64 (row t a k h s e) (a + slackPlace) ≡ s
+  row-slack : r .slack < 2 ^ 64 → get64 (row t a r) (a + slackPlace) ≡ r .slack
   row-slack fits =
-      rw (get-put64-other _ (a + statePlace) e (a + slackPlace) (inl (omega arith)))
-      (get-put64-same _ (a + slackPlace) s (simp length-put64 (omega arith)) fits)
+      rw (
+        get-put64-other _ (a + ticketPlace) (r .ticket) (a + slackPlace) (inl (omega arith)),
+        get-put64-other _ (a + statePlace) (r .state) (a + slackPlace) (inl (omega arith)),
+      )
+      (get-put64-same _ (a + slackPlace) (r .slack) (simp length-put64 (omega arith)) fits)
 
-  row-state : e < 2 ^ 64 → get64 (row t a k h s e) (a + statePlace) ≡ e
-  row-state fits = get-put64-same _ (a + statePlace) e (simp length-put64 (omega arith)) fits
+  row-state : r .state < 2 ^ 64 → get64 (row t a r) (a + statePlace) ≡ r .state
+  row-state fits =
+      rw (get-put64-other _ (a + ticketPlace) (r .ticket) (a + statePlace) (inl (omega arith)))
+      (get-put64-same _ (a + statePlace) (r .state) (simp length-put64 (omega arith)) fits)
+
+  row-ticket : r .ticket < 2 ^ 64 → get64 (row t a r) (a + ticketPlace) ≡ r .ticket
+  row-ticket fits = get-put64-same _ (a + ticketPlace) (r .ticket) (simp length-put64 (omega arith)) fits
 
 pub record-same : (t : List ℕ) (i : ℕ) (r : Record) → i < recordCount t → IsRecord r → recordAt (putRecord t i r) i ≡ r
 unfolding recordAt putRecord
@@ -103,24 +125,26 @@ record-same t i r h fits =
     let room : recordSize * i + recordSize ≤ length t = record-inside t i h in
     let a = recordSize * i in
     rw (
-      row-key t a (r .key) (r .heat) (r .slack) (r .state) room (fits .key),
-      row-heat t a (r .key) (r .heat) (r .slack) (r .state) room (fits .heat),
-      row-slack t a (r .key) (r .heat) (r .slack) (r .state) room (fits .slack),
-      row-state t a (r .key) (r .heat) (r .slack) (r .state) room (fits .state),
+      row-key t a r room (fits .key),
+      row-heat t a r room (fits .heat),
+      row-slack t a r room (fits .slack),
+      row-state t a r room (fits .state),
+      row-ticket t a r room (fits .ticket),
     )
 
 pub record-other : (t : List ℕ) (i j : ℕ) (r : Record) → j ≢ i → recordAt (putRecord t i r) j ≡ recordAt t j
 unfolding recordAt putRecord
 record-other t i j r h =
     let kept : (x : ℕ) → x + 8 ≤ recordSize →
-    get64 (row t (recordSize * i) (r .key) (r .heat) (r .slack) (r .state)) (recordSize * j + x) ≡ get64 t (recordSize * j + x) =
-    λ x small. row-elsewhere t (recordSize * i) (r .key) (r .heat) (r .slack) (r .state) (recordSize * j + x)
+    get64 (row t (recordSize * i) r) (recordSize * j + x) ≡ get64 t (recordSize * j + x) =
+    λ x small. row-elsewhere t (recordSize * i) r (recordSize * j + x)
     (⊎-elim (λ l. inl (omega arith)) (λ l. inr (omega arith)) (apart i j h)) in
     rw (
       rw add-zero at (kept 0 (omega arith)),
       kept heatPlace (omega arith),
       kept slackPlace (omega arith),
       kept statePlace (omega arith),
+      kept ticketPlace (omega arith),
     )
 
 -- a zero byte is read at every place of a cleared table
@@ -129,7 +153,7 @@ zero-at zero i = refl
 zero-at (suc n) zero = refl
 zero-at (suc n) (suc i) = zero-at n i
 
-pub record-zero : (n i : ℕ) → recordAt (replicate n 0) i ≡ record { key = 0; heat = 0; slack = 0; state = 0 }
+pub record-zero : (n i : ℕ) → recordAt (replicate n 0) i ≡ record { key = 0; heat = 0; slack = 0; state = 0; ticket = 0 }
 unfolding recordAt get64
 record-zero n i = simp zero-at
 
@@ -202,28 +226,39 @@ module _ (lines : List ℕ) (n : ℕ) (picture : List ℕ) (h : n < lineCount li
 pub record IsGauge (g : Gauge) : Type 0 where
   pub total : g .total < 2 ^ 64
   pub ceiling : g .ceiling < 2 ^ 64
+  pub serial : g .serial < 2 ^ 64
 
 pub gauge-same : (b : List ℕ) (g : Gauge) → length b ≡ gaugeSize → IsGauge g → gaugeAt (putGauge b g) ≡ g
 unfolding gaugeAt putGauge
 gauge-same b g e fits =
+    let one = put64 b 0 (g .total) in
+    let two = put64 one ceilingPlace (g .ceiling) in
     rw (
-      get-put64-other _ ceilingPlace (g .ceiling) 0 (inl (omega arith)),
+      get-put64-other two serialPlace (g .serial) 0 (inl (omega arith)),
+      get-put64-other two serialPlace (g .serial) ceilingPlace (inl (omega arith)),
+      get-put64-other one ceilingPlace (g .ceiling) 0 (inl (omega arith)),
       get-put64-same b 0 (g .total) (omega arith) (fits .total),
-      get-put64-same (put64 b 0 (g .total)) ceilingPlace (g .ceiling) (simp length-put64 (omega arith)) (fits .ceiling),
+      get-put64-same one ceilingPlace (g .ceiling) (simp length-put64 (omega arith)) (fits .ceiling),
+      get-put64-same two serialPlace (g .serial) (simp length-put64 (omega arith)) (fits .serial),
     )
 
 -- put as zero, it is zero in every byte
 pub gauge-zeroed : (b : List ℕ) → length b ≡ gaugeSize → putGauge b freshGauge ≡ replicate gaugeSize 0
 unfolding putGauge freshGauge bytes8
 gauge-zeroed b e =
-    let half = put64 b 0 0 in
-    let whole : length half ≡ gaugeSize = length-put64 b 0 0 ∙ e in
-    let front : take ceilingPlace half ≡ bytes8 0 = rw (put64-over b 0 0 (omega arith)) (take-at (bytes8 0) (drop 8 b) ceilingPlace refl) in
-    rw (put64-over half ceilingPlace 0 (omega arith), front, drop-of-length-le half {i = ceilingPlace + 8} (omega arith)) refl
+    let one = put64 b 0 0 in
+    let two = put64 one ceilingPlace 0 in
+    let one-long : length one ≡ gaugeSize = length-put64 b 0 0 ∙ e in
+    let two-long : length two ≡ gaugeSize = length-put64 one ceilingPlace 0 ∙ one-long in
+    let one-front : take ceilingPlace one ≡ bytes8 0 = rw (put64-over b 0 0 (omega arith)) (take-at (bytes8 0) (drop 8 b) ceilingPlace refl) in
+    let two-front : take serialPlace two ≡ bytes8 0 ++ bytes8 0 =
+    rw (put64-over one ceilingPlace 0 (omega arith), one-front)
+    (take-at (bytes8 0 ++ bytes8 0) (drop serialPlace one) serialPlace refl) in
+    rw (put64-over two serialPlace 0 (omega arith), two-front, drop-of-length-le two {i = serialPlace + 8} (omega arith)) refl
 
 pub gauge-kept : (b : List ℕ) → IsBytes b → putGauge b (gaugeAt b) ≡ b
 unfolding gaugeAt putGauge
-gauge-kept b bytes = rw (put-get64 b 0 bytes) (put-get64 b ceilingPlace bytes)
+gauge-kept b bytes = rw (put-get64 b 0 bytes, put-get64 b ceilingPlace bytes) (put-get64 b serialPlace bytes)
 
 -- ---- each record changed alike
 module _ (change : Record → Record) (kept : (r : Record) → IsRecord r → IsRecord (change r)) where

@@ -3,30 +3,28 @@
 use Prim.Native.Nat.{ℕ, _+_, _*_, _≤_, _<_, max}
 use mathlib.Core.Path.{_≡_, refl, sym, _∙_}
 use mathlib.Core.Bool.{Bool, true, false}
-use mathlib.Core.List.{List}
 use mathlib.Core.Logic.{_≢_}
-use mathlib.Core.Option.{some}
 use native.Mathlib.Decide.{decLe, ℕ-discrete}
 use native.Mathlib.Omega.{arith}
 use borrow.Author.Tests.{le-ltb, ne-eqb}
 use Rattle.rules.specs.declared.Record.{Record}
 use Rattle.rules.specs.declared.Gauge.{Gauge}
 use Rattle.rules.specs.Pass.{if_then_else_}
-use Rattle.rules.specs.Table.{heated, withHeat, newRecord, mostTotal, lineOf, filledState, isZero, isFree, isLined, isOn, isUsed}
+use Rattle.rules.specs.Table.{withTotal, withCeiling, heated, newRecord, mostTotal, lineOf, isZero, isFree, isLined, isOn, isUsed}
 use Rattle.rules.specs.Steps.{level}
 use Rattle.rules.specs.Replay.{Truth, at, grownTruth}
 use Rattle.rules.proofs.Searches.{any-none, none-any}
 use Rattle.rules.proofs.Chosen.{where-more}
 use Rattle.rules.proofs.Changes.{at-same, at-other, at-all}
-use Rattle.rules.proofs.Invariant.{Sound, Full, FullBut, Hottest, HottestBut}
+use Rattle.rules.proofs.Invariant.{Tracks, Full, FullBut, Hottest, HottestBut}
 
 -- the gauge after w pieces, with a ceiling
 abbrev pub counted : Gauge → ℕ → ℕ → Gauge
-counted g w ceiling = record { total = g .total + w; ceiling = ceiling }
+counted g w ceiling = withCeiling ceiling (withTotal (g .total + w) g)
 
 -- the level of a class heated by w rises by w at most
 heated-level : (ceiling w : ℕ) (r : Record) → 0 < r .state → level ceiling (heated w r) ≤ level ceiling r + w
-unfolding level isFree heated withHeat
+unfolding level isFree heated
 heated-level ceiling w r tracked = rw (ne-eqb (r .state) 0 (omega arith)) (omega arith)
 
 -- a level is no lower than the ceiling
@@ -68,8 +66,9 @@ module _ (f : ℕ → Record) (n c : ℕ) (i : ℕ) (inside : i < n) where
         ]
 
     -- what r must be after w pieces more of its class
-    record Counts (w ceiling : ℕ) (g : Gauge) (shown : ℕ → List ℕ) (t : Truth) : Type 0 where
+    record Counts (w ceiling : ℕ) (g : Gauge) (t : Truth) : Type 0 where
       tracked : 0 < r .state
+      unlined-ticket : r .state ≤ 1 → r .ticket ≡ 0
       state-most : r .state ≤ 1 + 2 * c
       heat-most : r .heat ≤ g .total + w
       ceiling-most : ceiling ≤ g .total + w
@@ -81,13 +80,12 @@ module _ (f : ℕ → Record) (n c : ℕ) (i : ℕ) (inside : i < n) where
       covers : (key : ℕ) → key ≢ r .key → 0 < f i .state → f i .key ≡ key → t .heat key ≤ ceiling
       level-here : level ceiling r ≤ level ceiling (f i) + w
       lower : (j : ℕ) → j < n → level ceiling (f j) ≤ level (g .ceiling) (f j)
-      latest : (line : ℕ) → r .state ≡ filledState line → t .picture (r .key) ≡ some (shown line)
 
     -- a class untracked after was untracked before, or had the record of place i
-    count-untracked : (w ceiling : ℕ) (g : Gauge) (shown : ℕ → List ℕ) (t : Truth) → Counts w ceiling g shown t → Sound f n c g shown t →
+    count-untracked : (w ceiling : ℕ) (g : Gauge) (t : Truth) → Counts w ceiling g t → Tracks f n c g t →
         (key : ℕ) → ((j : ℕ) → j < n → 0 < at i r f j .state → at i r f j .key ≢ key) → grownTruth t (r .key) w .heat key ≤ ceiling
     unfolding grownTruth
-    count-untracked w ceiling g shown t h s key none =
+    count-untracked w ceiling g t h s key none =
         let other : key ≢ r .key = λ e. none i inside (rw (at-same i r f) (h .tracked)) (rw (at-same i r f) (sym e)) in
         rw (at-other (r .key) key _ (t .heat) other)
         (elim (decLe (t .heat key) ceiling) [
@@ -101,16 +99,17 @@ module _ (f : ℕ → Record) (n c : ℕ) (i : ℕ) (inside : i < n) where
           )
         ])
 
-    count-sound : (w ceiling : ℕ) (g : Gauge) (shown : ℕ → List ℕ) (t : Truth) → Counts w ceiling g shown t → g .total + w ≤ mostTotal →
-        Sound f n c g shown t → Sound (at i r f) n c (counted g w ceiling) shown (grownTruth t (r .key) w)
+    count-tracks : (w ceiling : ℕ) (g : Gauge) (t : Truth) → Counts w ceiling g t → g .total + w ≤ mostTotal →
+        Tracks f n c g t → Tracks (at i r f) n c (counted g w ceiling) (grownTruth t (r .key) w)
     unfolding grownTruth
-    count-sound w ceiling g shown t h room s =
+    count-tracks w ceiling g t h room s =
         record {
           total-most = room;
           ceiling-most = h .ceiling-most;
           heat-most = each (λ x. x .heat ≤ g .total + w) (h .heat-most) (λ j l d. omega (arith, s .heat-most j l));
           state-most = each (λ x. x .state ≤ 1 + 2 * c) (h .state-most) (λ j l d. s .state-most j l);
           free-zero = each (λ x. x .state ≡ 0 → isZero x ≡ true) (λ e. absurd (omega arith)) (λ j l d. s .free-zero j l);
+          unlined-ticket = each (λ x. x .state ≤ 1 → x .ticket ≡ 0) (h .unlined-ticket) (λ j l d. s .unlined-ticket j l);
           keys-apart = still-apart (λ x. 0 < x .state) (λ x. x .key) (s .keys-apart) (λ j l d _. h .key-apart j l d);
           lines-apart = still-apart (λ x. 1 < x .state) lineOf (s .lines-apart) (h .line-apart);
           not-below =
@@ -121,7 +120,7 @@ module _ (f : ℕ → Record) (n c : ℕ) (i : ℕ) (inside : i < n) where
               each (λ x. 0 < x .state → x .heat ≤ at (r .key) (t .heat (r .key) + w) (t .heat) (x .key) + x .slack)
               (λ _. rw at-same (h .not-above))
               (λ j l d tracked. rw (at-other (r .key) (f j .key) _ (t .heat) (h .key-apart j l d tracked)) (s .not-above j l tracked));
-          untracked = count-untracked w ceiling g shown t h s;
+          untracked = count-untracked w ceiling g t h s;
           few = s .few;
           levels = λ chosen many.
               omega (
@@ -132,9 +131,6 @@ module _ (f : ℕ → Record) (n c : ℕ) (i : ℕ) (inside : i < n) where
                 s .levels chosen many,
               );
           total = cc;
-          latest =
-              λ j line. each (λ x. x .state ≡ filledState line → t .picture (x .key) ≡ some (shown line))
-              (h .latest line) (λ j l d. s .latest j line l) j;
         }
 
     -- r is on the line that was here, if any
@@ -165,13 +161,14 @@ module _ (f : ℕ → Record) (n c : ℕ) (i : ℕ) (inside : i < n) where
 
   -- ---- step 2: a tracked class is heated
   module _ (w : ℕ) (tracked : 0 < f i .state) where
-    pub heat-sound : (g : Gauge) (shown : ℕ → List ℕ) (t : Truth) → Sound f n c g shown t → g .total + w ≤ mostTotal →
-        Sound (at i (heated w (f i)) f) n c (counted g w (g .ceiling)) shown (grownTruth t (f i .key) w)
-    unfolding heated withHeat lineOf
-    heat-sound g shown t s room =
-        count-sound (heated w (f i)) w (g .ceiling) g shown t
+    pub heat-tracks : (g : Gauge) (t : Truth) → Tracks f n c g t → g .total + w ≤ mostTotal →
+        Tracks (at i (heated w (f i)) f) n c (counted g w (g .ceiling)) (grownTruth t (f i .key) w)
+    unfolding heated lineOf
+    heat-tracks g t s room =
+        count-tracks (heated w (f i)) w (g .ceiling) g t
         (record {
           tracked = tracked;
+          unlined-ticket = s .unlined-ticket i inside;
           state-most = s .state-most i inside;
           heat-most = omega (arith, s .heat-most i inside);
           ceiling-most = omega arith;
@@ -183,32 +180,32 @@ module _ (f : ℕ → Record) (n c : ℕ) (i : ℕ) (inside : i < n) where
           covers = λ key other _ e. absurd (other (sym e));
           level-here = heated-level (g .ceiling) w (f i) tracked;
           lower = λ j l. omega arith;
-          latest = λ line. s .latest i line inside;
         })
         room s
 
     pub heat-full : Full f n c → FullBut i (at i (heated w (f i)) f) n c
-    unfolding heated withHeat isOn isLined lineOf
+    unfolding heated isOn isLined lineOf
     heat-full = kept-full (heated w (f i)) (λ line. refl)
 
     pub heat-hottest : Hottest f n → HottestBut i (at i (heated w (f i)) f) n
-    unfolding heated withHeat
+    unfolding heated
     heat-hottest = kept-hottest (heated w (f i)) (λ on. (on, omega arith))
 
   -- ---- steps 3 and 4: an untracked class gets the record of a place that has no line, with a ceiling that covers what was there
   -- and raises no level
   module _ (key ceiling w : ℕ) (unlined : f i .state ≤ 1) where
-    pub track-sound : (g : Gauge) (shown : ℕ → List ℕ) (t : Truth) → Sound f n c g shown t → g .total + w ≤ mostTotal →
+    pub track-tracks : (g : Gauge) (t : Truth) → Tracks f n c g t → g .total + w ≤ mostTotal →
         ((j : ℕ) → j < n → 0 < f j .state → f j .key ≢ key) →
         g .ceiling ≤ ceiling → f i .heat ≤ ceiling → ((j : ℕ) → j < n → level ceiling (f j) ≤ level (g .ceiling) (f j)) →
-        Sound (at i (newRecord key ceiling w) f) n c (counted g w ceiling) shown (grownTruth t key w)
-    unfolding newRecord filledState
-    track-sound g shown t s room untracked above covers lower =
+        Tracks (at i (newRecord key ceiling w) f) n c (counted g w ceiling) (grownTruth t key w)
+    unfolding newRecord
+    track-tracks g t s room untracked above covers lower =
         let most : ceiling ≤ g .total = omega (arith, level-bounds ceiling (g .ceiling) (f i) (lower i inside), s .heat-most i inside) in
         let cold : t .heat key ≤ g .ceiling = s .untracked key untracked in
-        count-sound (newRecord key ceiling w) w ceiling g shown t
+        count-tracks (newRecord key ceiling w) w ceiling g t
         (record {
           tracked = omega arith;
+          unlined-ticket = λ _. refl;
           state-most = omega arith;
           heat-most = omega arith;
           ceiling-most = omega arith;
@@ -220,7 +217,6 @@ module _ (f : ℕ → Record) (n c : ℕ) (i : ℕ) (inside : i < n) where
           covers = λ k _ on e. rw (← e) (omega (arith, s .not-below i inside on));
           level-here = new-level key ceiling w (f i);
           lower = lower;
-          latest = λ line e. absurd (omega arith);
         })
         room s
 

@@ -7,6 +7,7 @@ use mathlib.Core.List.{List, [], _∷_}
 use native.Mathlib.Omega.{arith}
 use borrow.Author.Tests.{lt-ltb, le-ltb, eqb-true}
 use lib.ListN.{length}
+use lib.Dec.{eqb}
 use Rattle.rules.specs.declared.Record.{Record}
 use Rattle.rules.specs.declared.Verdict.{Verdict}
 use Rattle.rules.specs.declared.Verdict.the-variants.{Accepted}
@@ -19,9 +20,9 @@ use Rattle.rules.specs.declared.Answer.the-variants.{Aged, Changed, Unkn
 use Rattle.rules.specs.Bytes.{gaugeSize}
 use Rattle.rules.specs.Pass.{if_then_else_}
 use Rattle.rules.specs.Table.{Memory, isLined, isFilled, lineOf, lookup, places, size}
-use Rattle.rules.specs.Answers.{isRefused, numberOf, Told}
-use Rattle.rules.specs.Steps.{Outcome, outcome, ageSteps, readAnswer, admission, place, readCounted, warmSteps, peekAnswer, peekSteps, readSteps, change, updateSteps, store, fillSteps, decayFor, grown}
-use Rattle.rules.specs.Calls.{Test, unless, leaving, sizesTest, orderTest, HostMemory, held, stored, gaugeTest, verdict, hosted, plainVerdict, readVerdict, updateVerdict, fillVerdict, ageOutcome, readOutcome, updateOutcome, fillOutcome}
+use Rattle.rules.specs.Answers.{isRefused, numberOf, valuesOf, Told, staleTicket}
+use Rattle.rules.specs.Steps.{Outcome, outcome, ageSteps, readAnswer, admission, place, readCounted, warmSteps, peekAnswer, peekSteps, readSteps, change, updateSteps, storeIn, store, fillSteps, decayFor, grown}
+use Rattle.rules.specs.Calls.{Test, unless, leaving, sizesTest, orderTest, serialTest, HostMemory, held, stored, gaugeTest, verdict, hosted, HostRead, readLent, numberTest, putTicket, hostedRead, plainVerdict, readVerdict, updateVerdict, fillVerdict, ageOutcome, readOutcome, updateOutcome, fillOutcome}
 use Rattle.rules.proofs.Searches.{clash}
 use Rattle.rules.proofs.Verdicts.{first-passes, refused-leaves}
 use Rattle.rules.proofs.Peek.{read-either}
@@ -31,7 +32,7 @@ read-answers : (r : Record) → isRefused (readAnswer r) ≡ false
 unfolding readAnswer isRefused
 read-answers r = go (isFilled r) (isLined r)
   where
-    go : (b c : Bool) → isRefused (if b then Hit (lineOf r) else if c then Wanted (lineOf r) else Passed) ≡ false
+    go : (b c : Bool) → isRefused (if b then Hit (lineOf r) else if c then Wanted (lineOf r) (r .ticket) else Passed) ≡ false
     go true c = refl
     go false true = refl
     go false false = refl
@@ -65,12 +66,20 @@ unfolding updateSteps
 update-steps-answer m key w = change-answers m w _
 
 -- a fill that its steps refuse has written nothing
-store-leaves : (m : Memory) (picture : List ℕ) (l : Lookup) → isRefused (store m picture l .answer) ≡ true → store m picture l .after ≡ m
-unfolding store isRefused
-store-leaves m picture Untracked e = refl
-store-leaves m picture Unlined e = refl
-store-leaves m picture (Lined i n true) e = refl
-store-leaves m picture (Lined i n false) e = absurd (true≢false (sym e))
+store-leaves : (m : Memory) (picture : List ℕ) (ticket : ℕ) (l : Lookup) → isRefused (store m picture ticket l .answer) ≡ true →
+    store m picture ticket l .after ≡ m
+unfolding store storeIn isRefused
+store-leaves m picture ticket Untracked e = refl
+store-leaves m picture ticket Unlined e = refl
+store-leaves m picture ticket (Lined i n true given) e = refl
+store-leaves m picture ticket (Lined i n false given) e = go (eqb ticket given) e
+  where
+    brought : Bool → Outcome Answer Memory
+    brought same = if same then storeIn m i n picture else outcome (Refused staleTicket) m
+
+    go : (same : Bool) → isRefused (brought same .answer) ≡ true → brought same .after ≡ m
+    go true e = absurd (true≢false (sym e))
+    go false e = refl
 
 -- ---- a refused call leaves all
 module _ (m : Memory) where
@@ -84,11 +93,12 @@ module _ (m : Memory) where
   update-leaves key w =
       refused-leaves m (updateSteps m key w) (updateVerdict m w) (λ e. clash e (update-steps-answer m key w))
 
-  pub fill-leaves : (key : ℕ) (picture : List ℕ) → isRefused (fillOutcome m key picture .answer) ≡ true →
-      fillOutcome m key picture .after ≡ m
+  pub fill-leaves : (key : ℕ) (picture : List ℕ) (ticket : ℕ) → isRefused (fillOutcome m key picture ticket .answer) ≡ true →
+      fillOutcome m key picture ticket .after ≡ m
   unfolding fillOutcome fillSteps
-  fill-leaves key picture =
-      refused-leaves m (fillSteps m key picture) (fillVerdict m picture) (store-leaves m picture (lookup (places m) (size m) key))
+  fill-leaves key picture ticket =
+      refused-leaves m (fillSteps m key picture ticket) (fillVerdict m picture)
+      (store-leaves m picture ticket (lookup (places m) (size m) key))
 
   pub age-leaves : isRefused (ageOutcome m .answer) ≡ true → ageOutcome m .after ≡ m
   unfolding ageOutcome ageSteps isRefused
@@ -124,31 +134,36 @@ accepted-told Unknown e = refl
 accepted-told Stored e = refl
 accepted-told Passed e = refl
 accepted-told (Hit n) e = le-ltb (numberOf (Hit n)) 100 (omega arith)
-accepted-told (Wanted n) e = le-ltb (numberOf (Wanted n)) 100 (omega arith)
+accepted-told (Wanted n ticket) e = le-ltb (numberOf (Wanted n ticket)) 100 (omega arith)
 accepted-told (Refused n) e = absurd (true≢false e)
 
-store-told : (m : Memory) (picture : List ℕ) (l : Lookup) → Told (store m picture l .answer)
-unfolding store numberOf isRefused
-store-told m picture Untracked = refl
-store-told m picture Unlined = refl
-store-told m picture (Lined i n true) = refl
-store-told m picture (Lined i n false) = refl
+store-told : (m : Memory) (picture : List ℕ) (ticket : ℕ) (l : Lookup) → Told (store m picture ticket l .answer)
+unfolding store storeIn numberOf isRefused
+store-told m picture ticket Untracked = refl
+store-told m picture ticket Unlined = refl
+store-told m picture ticket (Lined i n true given) = refl
+store-told m picture ticket (Lined i n false given) = go (eqb ticket given)
+  where
+    go : (same : Bool) → Told ((if same then storeIn m i n picture else outcome (Refused staleTicket) m) .answer)
+    go true = refl
+    go false = refl
 
 module _ (m : Memory) where
   pub read-told : (key w : ℕ) → Told (readOutcome m key w .answer)
-  unfolding readOutcome readVerdict sizesTest orderTest
+  unfolding readOutcome readVerdict sizesTest orderTest serialTest
   read-told key w =
       unless-told _ m (readSteps m key w) (verdict-small _ (omega arith)) (accepted-told _ (read-steps-answer m key w))
 
   pub update-told : (key w : ℕ) → Told (updateOutcome m key w .answer)
-  unfolding updateOutcome updateVerdict sizesTest orderTest
+  unfolding updateOutcome updateVerdict sizesTest orderTest serialTest
   update-told key w =
       unless-told _ m (updateSteps m key w) (verdict-small _ (omega arith)) (accepted-told _ (update-steps-answer m key w))
 
-  pub fill-told : (key : ℕ) (picture : List ℕ) → Told (fillOutcome m key picture .answer)
-  unfolding fillOutcome fillVerdict sizesTest orderTest fillSteps
-  fill-told key picture =
-      unless-told _ m (fillSteps m key picture) (verdict-small _ (omega arith)) (store-told m picture (lookup (places m) (size m) key))
+  pub fill-told : (key : ℕ) (picture : List ℕ) (ticket : ℕ) → Told (fillOutcome m key picture ticket .answer)
+  unfolding fillOutcome fillVerdict sizesTest orderTest serialTest fillSteps
+  fill-told key picture ticket =
+      unless-told _ m (fillSteps m key picture ticket) (verdict-small _ (omega arith))
+      (store-told m picture ticket (lookup (places m) (size m) key))
 
   pub age-told : Told (ageOutcome m .answer)
   unfolding ageOutcome plainVerdict sizesTest orderTest ageSteps isRefused
@@ -182,3 +197,67 @@ module _ (call : Memory → Outcome Answer Memory) (h : HostMemory) where
   pub hosted-told : Told (call (held h) .answer) → Told (hosted call h .answer)
   unfolding hosted gaugeTest
   hosted-told = unless-told _ h hostGiven (verdict-small _ (omega arith))
+
+-- ---- a read by a C host
+-- | and otherwise stay
+pub ticket-stays : (bytes : List ℕ) (a : Answer) → valuesOf a ≡ [] → putTicket bytes a ≡ bytes
+unfolding putTicket valuesOf
+ticket-stays bytes Aged e = refl
+ticket-stays bytes Changed e = refl
+ticket-stays bytes Unknown e = refl
+ticket-stays bytes Stored e = refl
+ticket-stays bytes Passed e = refl
+ticket-stays bytes (Hit n) e = refl
+ticket-stays bytes (Wanted n ticket) e = let z : _≡_ {A = ℕ} 0 1 = cc in absurd (omega arith)
+ticket-stays bytes (Refused n) e = refl
+
+-- a refused answer brings none
+refused-brings-none : (a : Answer) → isRefused a ≡ true → valuesOf a ≡ []
+unfolding isRefused valuesOf
+refused-brings-none (Wanted n ticket) e = absurd (true≢false (sym e))
+refused-brings-none (Refused n) e = refl
+refused-brings-none Aged e = refl
+refused-brings-none Changed e = refl
+refused-brings-none Unknown e = refl
+refused-brings-none Stored e = refl
+refused-brings-none Passed e = refl
+refused-brings-none (Hit n) e = refl
+
+module _ (call : Memory → Outcome Answer Memory) (h : HostRead) where
+  abbrev pub readGiven : Outcome Answer HostRead
+  readGiven =
+      outcome (hosted call (h .memory) .answer)
+      (readLent (hosted call (h .memory) .after) (putTicket (h .ticket) (hosted call (h .memory) .answer)))
+
+  -- it is refused for the length of the ticket's bytes, or it is the host's call
+  read-hosted-either : (P : Outcome Answer HostRead → Type 0) → ((n : ℕ) → P (leaving h n)) → P readGiven → P (hostedRead call h)
+  unfolding hostedRead unless
+  read-hosted-either P refused given = go (verdict (numberTest (h .ticket) ∷ []))
+    where
+      go : (v : Verdict) → P (unless v (leaving h) readGiven)
+      go Accepted = given
+      go (Verdict.Refused n) = refused n
+
+  -- where it leaves the memory, all that it may write is the ticket of a wanted
+  pub read-hosted-puts : hosted call (h .memory) .after ≡ h .memory →
+      hostedRead call h .after ≡ readLent (h .memory) (putTicket (h .ticket) (hostedRead call h .answer))
+  unfolding putTicket
+  read-hosted-puts keeps =
+      read-hosted-either (λ (o : Outcome Answer HostRead). o .after ≡ readLent (h .memory) (putTicket (h .ticket) (o .answer)))
+      (λ n. refl) (rw keeps)
+
+  pub read-hosted-leaves : {A : Type 0} (seen : HostMemory → A) →
+      (isRefused (call (held (h .memory)) .answer) ≡ true → call (held (h .memory)) .after ≡ held (h .memory)) →
+      (length (h .memory .gauge) ≡ gaugeSize → seen (stored (h .memory) (held (h .memory))) ≡ seen (h .memory)) →
+      isRefused (hostedRead call h .answer) ≡ true →
+      (seen (hostedRead call h .after .memory) ≡ seen (h .memory)) × (hostedRead call h .after .ticket ≡ h .ticket)
+  read-hosted-leaves seen leaves put =
+      read-hosted-either
+      (λ (o : Outcome Answer HostRead).
+      isRefused (o .answer) ≡ true → (seen (o .after .memory) ≡ seen (h .memory)) × (o .after .ticket ≡ h .ticket))
+      (λ n e. (refl, refl))
+      (λ e. (hosted-leaves call (h .memory) seen leaves put e, ticket-stays (h .ticket) _ (refused-brings-none _ e)))
+
+  pub read-hosted-told : Told (call (held (h .memory)) .answer) → Told (hostedRead call h .answer)
+  unfolding hostedRead numberTest
+  read-hosted-told told = unless-told _ h readGiven (verdict-small _ (omega arith)) (hosted-told call (h .memory) told)

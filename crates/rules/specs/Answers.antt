@@ -12,7 +12,7 @@ use Rattle.rules.specs.declared.Levels.{Levels}
 use Rattle.rules.specs.declared.Lookup.{Lookup}
 use Rattle.rules.specs.declared.Entry.{Entry}
 
--- | table not whole records, K outside 1 to 1,024, lines not whole, C not under K, gauge bytes not 16
+-- | table not whole records, K outside 1 to 1,024, lines not whole, C not under K, gauge bytes not [24]
 abbrev pub wrongSizes : ℕ
 wrongSizes = 1
 
@@ -40,9 +40,17 @@ alreadyFilled = 6
 abbrev pub unknownForm : ℕ
 unknownForm = 7
 
--- | 1 to 79 bytes left at the journal's end
+-- | 1 to 87 bytes left [at the journal's end]
 abbrev pub shortEnd : ℕ
 shortEnd = 8
+
+-- | 9, a fill with another ticket (document 02)
+abbrev pub staleTicket : ℕ
+staleTicket = 9
+
+-- | 10, a read over 0, update or fill when the serial is 9,223,372,036,854,775,808 or more
+abbrev pub serialSpent : ℕ
+serialSpent = 10
 
 -- | returns one number: a refusal's own, 100 for aged, 101 changed, 102 unknown, 103 stored, 104 passed, 2,000 + n for hit and
 -- | 4,000 + n for wanted on line n
@@ -53,7 +61,7 @@ numberOf Unknown = 102
 numberOf Stored = 103
 numberOf Passed = 104
 numberOf (Hit n) = 2000 + n
-numberOf (Wanted n) = 4000 + n
+numberOf (Wanted n ticket) = 4000 + n
 numberOf (Refused n) = n
 
 unfoldable pub isRefused : Answer → Bool
@@ -63,7 +71,7 @@ isRefused Unknown = false
 isRefused Stored = false
 isRefused Passed = false
 isRefused (Hit n) = false
-isRefused (Wanted n) = false
+isRefused (Wanted n ticket) = false
 isRefused (Refused n) = true
 
 -- | a refusal's own
@@ -71,13 +79,27 @@ isRefused (Refused n) = true
 abbrev pub Told : Answer → Type 0
 Told a = ltb (numberOf a) 100 ≡ isRefused a
 
--- The other answers: the paper's number, if it has one, and the values that come with it.
+-- The paper's number, if an answer has one, and the values that come with it.
 pub record Said : Type 0 where
   pub number : Option ℕ
   pub values : List ℕ
 
 abbrev pub said : Option ℕ → List ℕ → Said
 said n vs = record { number = n; values = vs }
+
+-- | Wanted carries the ticket (document 02)
+unfoldable pub valuesOf : Answer → List ℕ
+valuesOf Aged = []
+valuesOf Changed = []
+valuesOf Unknown = []
+valuesOf Stored = []
+valuesOf Passed = []
+valuesOf (Hit n) = []
+valuesOf (Wanted n ticket) = ticket ∷ []
+valuesOf (Refused n) = []
+
+unfoldable pub answerSaid : Answer → Said
+answerSaid a = said (some (numberOf a)) (valuesOf a)
 
 -- | Fresh, and any call without a named answer, answers done.
 unfoldable pub completionSaid : Completion → Said
@@ -100,8 +122,8 @@ levelsSaid (Levels.Refused n) = said (some n) []
 unfoldable pub lookupSaid : Lookup → Said
 lookupSaid Lookup.Untracked = said (some noLine) []
 lookupSaid Lookup.Unlined = said (some noLine) []
-lookupSaid (Lookup.Lined place line true) = said (some alreadyFilled) (place ∷ line ∷ [])
-lookupSaid (Lookup.Lined place line false) = said none (place ∷ line ∷ [])
+lookupSaid (Lookup.Lined place line true ticket) = said (some alreadyFilled) (place ∷ line ∷ ticket ∷ [])
+lookupSaid (Lookup.Lined place line false ticket) = said none (place ∷ line ∷ ticket ∷ [])
 
 -- | Byte 0 is the kind: 1 read, 2 update, 3 fill, 4 age
 abbrev pub readKind : ℕ
@@ -119,7 +141,7 @@ ageKind = 4
 unfoldable pub entrySaid : Entry → Said
 entrySaid (Entry.Read key weight) = said (some readKind) (key ∷ weight ∷ [])
 entrySaid (Entry.Update key weight) = said (some updateKind) (key ∷ weight ∷ [])
-entrySaid (Entry.Fill key picture) = said (some fillKind) (key ∷ picture ∷ [])
+entrySaid (Entry.Fill key picture ticket) = said (some fillKind) (key ∷ picture ∷ ticket ∷ [])
 entrySaid Entry.Age = said (some ageKind) []
 entrySaid (Entry.Refused n) = said (some n) []
 entrySaid Entry.Done = said none []

@@ -5,7 +5,7 @@ use lib.ListN.{length, getD, take, drop, set}
 use Rattle.rules.specs.declared.Record.{Record}
 use Rattle.rules.specs.declared.Gauge.{Gauge}
 
--- | A record is four 64-bit unsigned numbers, least significant byte first
+-- | 64-bit unsigned numbers, least significant byte first
 unfoldable pub get64 : List ℕ → ℕ → ℕ
 get64 bytes at =
     getD bytes at 0
@@ -40,9 +40,9 @@ abbrev pub numberSize : ℕ
 numberSize = 8
 
 -- ---- the table
--- | The table is lent bytes: K records of 32 bytes, no header
+-- | The table is lent bytes: K records .., no header. .. Records gain a fifth number, the ticket, and become 40 bytes (document 02)
 abbrev pub recordSize : ℕ
-recordSize = 32
+recordSize = 40
 
 -- where its numbers lie in it, after the key
 abbrev pub heatPlace : ℕ
@@ -54,7 +54,10 @@ slackPlace = 16
 abbrev pub statePlace : ℕ
 statePlace = 24
 
--- | four 64-bit unsigned numbers, least significant byte first: key, heat, slack, state
+abbrev pub ticketPlace : ℕ
+ticketPlace = 32
+
+-- | 64-bit unsigned numbers, least significant byte first: key, heat, slack, state. .. a fifth number, the ticket
 unfoldable pub recordAt : List ℕ → ℕ → Record
 recordAt table i =
     record {
@@ -62,6 +65,7 @@ recordAt table i =
       heat = get64 table (recordSize * i + heatPlace);
       slack = get64 table (recordSize * i + slackPlace);
       state = get64 table (recordSize * i + statePlace);
+      ticket = get64 table (recordSize * i + ticketPlace);
     }
 
 unfoldable pub putRecord : List ℕ → ℕ → Record → List ℕ
@@ -69,10 +73,12 @@ putRecord table i r =
     put64
     (put64
     (put64
+    (put64
     (put64 table (recordSize * i) (r .key))
     (recordSize * i + heatPlace) (r .heat))
     (recordSize * i + slackPlace) (r .slack))
-    (recordSize * i + statePlace) (r .state)
+    (recordSize * i + statePlace) (r .state))
+    (recordSize * i + ticketPlace) (r .ticket)
 
 -- | K
 unfoldable pub recordCount : List ℕ → ℕ
@@ -94,16 +100,19 @@ unfoldable pub lineCount : List ℕ → ℕ
 lineCount lines = length lines / lineSize
 
 -- ---- the gauge of a C host
--- | lends the gauge as 16 bytes, total first, in the same byte order
+-- | lends the gauge as .. bytes, total first, in the same byte order. .. a third number, the serial, and becomes 24 bytes (document 02)
 abbrev pub gaugeSize : ℕ
-gaugeSize = 16
+gaugeSize = 24
 
--- where its second number lies
+-- where its second and third numbers lie
 abbrev pub ceilingPlace : ℕ
 ceilingPlace = 8
 
+abbrev pub serialPlace : ℕ
+serialPlace = 16
+
 unfoldable pub gaugeAt : List ℕ → Gauge
-gaugeAt bytes = record { total = get64 bytes 0; ceiling = get64 bytes ceilingPlace }
+gaugeAt bytes = record { total = get64 bytes 0; ceiling = get64 bytes ceilingPlace; serial = get64 bytes serialPlace }
 
 unfoldable pub putGauge : List ℕ → Gauge → List ℕ
-putGauge bytes g = put64 (put64 bytes 0 (g .total)) ceilingPlace (g .ceiling)
+putGauge bytes g = put64 (put64 (put64 bytes 0 (g .total)) ceilingPlace (g .ceiling)) serialPlace (g .serial)

@@ -18,9 +18,9 @@ use Rattle.rules.specs.Steps.{Outcome, outcome}
 use Rattle.rules.specs.Calls.{ageOutcome, readOutcome, updateOutcome, fillOutcome}
 
 -- ---- the forms, of the record that begins at a position
--- | Records of 80 bytes, no header.
+-- | no header. .. in records of 88 bytes (document 02)
 abbrev pub entrySize : ℕ
-entrySize = 80
+entrySize = 88
 
 -- | Byte 0 is the kind
 unfoldable pub kindAt : List ℕ → ℕ → ℕ
@@ -40,6 +40,10 @@ picturePlace at = at + 16
 
 unfoldable pub pictureAt : List ℕ → ℕ → List ℕ
 pictureAt j place = take lineSize (drop place j)
+
+-- | the journal keeps a fill's ticket in bytes 80 to 87 (document 02)
+unfoldable pub ticketAt : List ℕ → ℕ → ℕ
+ticketAt j at = get64 j (at + 80)
 
 -- n bytes from a position are all 0
 unfoldable pub zeros : List ℕ → ℕ → ℕ → Bool
@@ -62,6 +66,10 @@ weightZero j at = eqb (weightAt j at) 0
 unfoldable pub keyZero : List ℕ → ℕ → Bool
 keyZero j at = eqb (keyAt j at) 0
 
+-- | [the ticket is] zero otherwise
+unfoldable pub ticketZero : List ℕ → ℕ → Bool
+ticketZero j at = eqb (ticketAt j at) 0
+
 -- | anything else is 7
 unfoldable pub ofForm : Bool → Entry → Entry
 ofForm good entry = if good then entry else Entry.Refused unknownForm
@@ -70,12 +78,13 @@ ofForm good entry = if good then entry else Entry.Refused unknownForm
 unfoldable pub wholeEntry : List ℕ → ℕ → Entry
 wholeEntry j at =
     if eqb (kindAt j at) readKind
-    then ofForm (gapsZero j at && pictureZero j at) (Read (keyAt j at) (weightAt j at))
+    then ofForm (gapsZero j at && pictureZero j at && ticketZero j at) (Read (keyAt j at) (weightAt j at))
     else if eqb (kindAt j at) updateKind
-    then ofForm (gapsZero j at && pictureZero j at) (Update (keyAt j at) (weightAt j at))
+    then ofForm (gapsZero j at && pictureZero j at && ticketZero j at) (Update (keyAt j at) (weightAt j at))
     else if eqb (kindAt j at) fillKind
-    then ofForm (gapsZero j at && weightZero j at) (Fill (keyAt j at) (picturePlace at))
-    else ofForm (eqb (kindAt j at) ageKind && gapsZero j at && weightZero j at && pictureZero j at && keyZero j at) Age
+    then ofForm (gapsZero j at && weightZero j at) (Fill (keyAt j at) (picturePlace at) (ticketAt j at))
+    else ofForm
+    (eqb (kindAt j at) ageKind && gapsZero j at && weightZero j at && pictureZero j at && keyZero j at && ticketZero j at) Age
 
 -- ---- reading from a position
 -- | A reader that holds the lent journal and its position gives one record after another. A 7 moves it past that record, an 8
@@ -133,7 +142,7 @@ wordOf Unknown = unknownWord
 wordOf Stored = storedWord
 wordOf Passed = passedWord
 wordOf (Hit n) = hitWord
-wordOf (Wanted n) = wantedWord
+wordOf (Wanted n ticket) = wantedWord
 wordOf (Refused n) = refusedWord ++ decimal n
 
 -- | prints per record: its number from 1, the answer's word .., total, ceiling, one space between
@@ -180,7 +189,7 @@ printing run next o =
 unfoldable pub performed : List ℕ → Entry → Memory → Outcome Answer Memory
 performed j (Read key w) m = readOutcome m key w
 performed j (Update key w) m = updateOutcome m key w
-performed j (Fill key place) m = fillOutcome m key (pictureAt j place)
+performed j (Fill key place ticket) m = fillOutcome m key (pictureAt j place) ticket
 performed j Age m = ageOutcome m
 performed j (Entry.Refused n) m = outcome (Refused n) m
 performed j Done m = outcome Passed m
@@ -188,7 +197,7 @@ performed j Done m = outcome Passed m
 unfoldable pub isEnd : Entry → Bool
 isEnd (Read key w) = false
 isEnd (Update key w) = false
-isEnd (Fill key place) = false
+isEnd (Fill key place ticket) = false
 isEnd Age = false
 isEnd (Entry.Refused n) = false
 isEnd Done = true

@@ -1,5 +1,5 @@
 -- The replay of demand 3: what it keeps, and what each accepted call does to it. Nothing in the table, gauge or lines is read for it;
--- its start is told K.
+-- its start is told K. And, which is no part of it, what an accepted update leaves of stale tickets.
 use Prim.Native.Nat.{ℕ, _+_, _-_}
 use mathlib.Core.List.{List}
 use mathlib.Core.Option.{Option, none, some}
@@ -7,11 +7,19 @@ use lib.Dec.{ltb, eqb}
 use Rattle.rules.specs.Pass.{if_then_else_}
 use Rattle.rules.specs.Table.{halfDown, mostTotal}
 
+-- A picture, with the ticket that its fill brought.
+pub record Filled : Type 0 where
+  pub bytes : List ℕ
+  pub ticket : ℕ
+
+abbrev pub filledWith : List ℕ → ℕ → Filled
+filledWith bytes ticket = record { bytes = bytes; ticket = ticket }
+
 -- | It keeps a true total, and for every key a true heat and a picture
 pub record Truth : Type 0 where
   pub total : ℕ
   pub heat : ℕ → ℕ
-  pub picture : ℕ → Option (List ℕ)
+  pub picture : ℕ → Option Filled
   -- | Its records are K
   -- (the fewest records that the table has had; no call changes them)
   pub fewest : ℕ
@@ -47,5 +55,13 @@ updateTruth t key w =
     record { total = t .total; heat = at key (t .heat key - w) (t .heat); picture = at key none (t .picture); fewest = t .fewest }
 
 -- | Fill: the key's picture becomes the one lent.
-unfoldable pub fillTruth : Truth → ℕ → List ℕ → Truth
-fillTruth t key lent = record { total = t .total; heat = t .heat; picture = at key (some lent) (t .picture); fewest = t .fewest }
+unfoldable pub fillTruth : Truth → ℕ → List ℕ → ℕ → Truth
+fillTruth t key lent ticket =
+    record { total = t .total; heat = t .heat; picture = at key (some (filledWith lent ticket)) (t .picture); fewest = t .fewest }
+
+-- ---- tickets
+-- | a picture whose ticket was given by the last accepted update of its class, if any, or after it (document 02)
+-- For each class, the tickets up to which every one was given before that update: an accepted update makes them the serial that it
+-- found. No other call changes them.
+unfoldable pub updateStale : (ℕ → ℕ) → ℕ → ℕ → ℕ → ℕ
+updateStale stale key serial = at key serial stale

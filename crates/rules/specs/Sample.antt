@@ -3,41 +3,46 @@ use Prim.Native.Nat.{ℕ, _*_}
 use mathlib.Core.List.{List, [], _∷_, _++_}
 use lib.ListN.{replicate}
 use Rattle.rules.specs.declared.Record.{Record}
+use Rattle.rules.specs.declared.Gauge.{Gauge}
 use Rattle.rules.specs.Bytes.{recordSize, lineSize, putRecord}
 use Rattle.rules.specs.Table.{Memory, withLines}
 use Rattle.rules.specs.Calls.{HostMemory, freshOutcome}
 use Rattle.rules.specs.Journal.{Row, agedWord, changedWord, unknownWord, storedWord, passedWord, hitWord, wantedWord, refusedWord}
 
--- a record of the journal: its kind's byte, a key and a weight below 256, and its picture, 64 bytes alike
-unfoldable pub sampleEntry : ℕ → ℕ → ℕ → ℕ → List ℕ
-sampleEntry kind key weight picture =
-    (kind ∷ 0 ∷ weight ∷ 0 ∷ 0 ∷ 0 ∷ 0 ∷ 0 ∷ key ∷ replicate 7 0) ++ replicate 64 picture
+-- a record of the journal: its kind's byte, a key, a weight and a ticket below 256, and its picture, 64 bytes alike
+unfoldable pub sampleEntry : ℕ → ℕ → ℕ → ℕ → ℕ → List ℕ
+sampleEntry kind key weight picture ticket =
+    (kind ∷ 0 ∷ weight ∷ 0 ∷ 0 ∷ 0 ∷ 0 ∷ 0 ∷ key ∷ replicate 7 0) ++ replicate 64 picture ++ (ticket ∷ replicate 7 0)
 
 -- | Journal: read 5 w 3; fill 5; read 5 w 1; read 7 w 4; read 7 w 1; read 9 w 2; read 11 w 1; update 7 w 3; update 9 w 1; fill 7;
--- | age; read 9 w 1; read 9 w 1.
+-- | age; read 9 w 1; read 9 w 1. .. row 2 of the sample brings ticket 1 (document 02)
 unfoldable pub sampleJournal : List ℕ
 sampleJournal =
-    sampleEntry 1 5 3 0
-    ++ sampleEntry 3 5 0 105
-    ++ sampleEntry 1 5 1 0
-    ++ sampleEntry 1 7 4 0
-    ++ sampleEntry 1 7 1 0
-    ++ sampleEntry 1 9 2 0
-    ++ sampleEntry 1 11 1 0
-    ++ sampleEntry 2 7 3 0
-    ++ sampleEntry 2 9 1 0
-    ++ sampleEntry 3 7 0 107
-    ++ sampleEntry 4 0 0 0
-    ++ sampleEntry 1 9 1 0
-    ++ sampleEntry 1 9 1 0
+    sampleEntry 1 5 3 0 0
+    ++ sampleEntry 3 5 0 105 1
+    ++ sampleEntry 1 5 1 0 0
+    ++ sampleEntry 1 7 4 0 0
+    ++ sampleEntry 1 7 1 0 0
+    ++ sampleEntry 1 9 2 0 0
+    ++ sampleEntry 1 11 1 0 0
+    ++ sampleEntry 2 7 3 0 0
+    ++ sampleEntry 2 9 1 0 0
+    ++ sampleEntry 3 7 0 107 0
+    ++ sampleEntry 4 0 0 0 0
+    ++ sampleEntry 1 9 1 0 0
+    ++ sampleEntry 1 9 1 0 0
+
+-- a gauge by its numbers
+abbrev pub gaugeOf : ℕ → ℕ → ℕ → Gauge
+gaugeOf total ceiling serial = record { total = total; ceiling = ceiling; serial = serial }
 
 -- | K = 3, C = 1
--- What fresh is lent: no byte of it and neither number is zero.
+-- What fresh is lent: no byte of it and no number is zero.
 unfoldable pub sampleLent : Memory
 sampleLent =
     record {
       table = replicate (3 * recordSize) 255;
-      gauge = record { total = 6; ceiling = 7 };
+      gauge = gaugeOf 6 7 8;
       lines = replicate (1 * lineSize) 170;
     }
 
@@ -99,15 +104,15 @@ sampleText =
 
 -- ---- what examples are made of
 -- a record by its numbers
-abbrev pub numbers : ℕ → ℕ → ℕ → ℕ → Record
-numbers key heat slack state = record { key = key; heat = heat; slack = slack; state = state }
+abbrev pub numbers : ℕ → ℕ → ℕ → ℕ → ℕ → Record
+numbers key heat slack state ticket = record { key = key; heat = heat; slack = slack; state = state; ticket = ticket }
 
 -- a memory by its three records, its gauge and its count of lines, no byte of which is zero
-unfoldable pub threeRecords : Record → Record → Record → ℕ → ℕ → ℕ → Memory
-threeRecords x y z total ceiling c =
+unfoldable pub threeRecords : Record → Record → Record → Gauge → ℕ → Memory
+threeRecords x y z gauge c =
     record {
       table = putRecord (putRecord (putRecord (replicate (3 * recordSize) 0) 0 x) 1 y) 2 z;
-      gauge = record { total = total; ceiling = ceiling };
+      gauge = gauge;
       lines = replicate (c * lineSize) 170;
     }
 
@@ -115,9 +120,9 @@ threeRecords x y z total ceiling c =
 abbrev pub samplePicture : ℕ → List ℕ
 samplePicture byte = replicate lineSize byte
 
--- what it leaves: 9 on line 0, which is empty; its bytes are those of the one accepted fill
+-- what it leaves: 9 on line 0, which is empty; its bytes are those of the one accepted fill. Tickets were given by rows 1, 5, 8 and 13.
 unfoldable pub sampleEnd : Memory
-sampleEnd = withLines (samplePicture 105) (threeRecords (numbers 5 2 0 1) (numbers 9 3 1 2) (numbers 11 1 1 1) 8 1 1)
+sampleEnd = withLines (samplePicture 105) (threeRecords (numbers 5 2 0 1 0) (numbers 9 3 1 2 4) (numbers 11 1 1 1 0) (gaugeOf 8 1 4) 1)
 
 -- The start as a C host lends it, with that many gauge bytes.
 unfoldable pub hostStart : ℕ → HostMemory

@@ -1,5 +1,5 @@
 -- The steps of age, read, update, fill, show and the levelled sum, on a memory that no refusal holds for (Calls.antt).
-use Prim.Native.Nat.{ℕ, _+_, max}
+use Prim.Native.Nat.{ℕ, _+_, _≤_, max}
 use mathlib.Core.List.{List}
 use mathlib.Core.Bool.{true, false}
 use mathlib.Core.Option.{Option, none, some}
@@ -12,10 +12,10 @@ use Rattle.rules.specs.declared.Lookup.{Lookup}
 use Rattle.rules.specs.declared.Lookup.the-variants.{Untracked, Unlined, Lined}
 use Rattle.rules.specs.declared.Answer.{Answer}
 use Rattle.rules.specs.declared.Answer.the-variants.{Aged, Changed, Unknown, Stored, Passed, Hit, Wanted, Refused}
-use Rattle.rules.specs.Answers.{noLine, alreadyFilled}
+use Rattle.rules.specs.Answers.{noLine, alreadyFilled, staleTicket}
 use Rattle.rules.specs.Bytes.{putLine}
 use Rattle.rules.specs.Pass.{if_then_else_, sumOf}
-use Rattle.rules.specs.Table.{Memory, isFree, isLined, isFilled, lineOf, agedRecord, halfDown, heated, cooled, newRecord, unlined, onEmptyLine, emptied, filled, keyRecord, freeRecord, victim, coldestLined, hottestUnlined, hotter, lowestUnused, lookup, mostTotal, places, size, lineTotal, withTable, withGauge, withLines, write, changeAll}
+use Rattle.rules.specs.Table.{Memory, isFree, isLined, isFilled, lineOf, withTicket, withTotal, withCeiling, withSerial, agedRecord, halfDown, heated, cooled, newRecord, unlined, onEmptyLine, emptied, filled, keyRecord, freeRecord, victim, coldestLined, hottestUnlined, hotter, lowestUnused, lookup, mostTotal, places, size, lineTotal, withTable, withGauge, withLines, write, changeAll}
 
 -- What a call does: its answer, and what it leaves of what it was lent.
 pub record Outcome (Answered Lent : Type 0) : Type 0 where
@@ -28,7 +28,7 @@ outcome a m = record { answer = a; after = m }
 -- ---- Age
 -- | Every heat, the total and the ceiling become half, rounded down. Every slack becomes half, rounded up.
 unfoldable pub agedGauge : Gauge → Gauge
-agedGauge g = record { total = halfDown (g .total); ceiling = halfDown (g .ceiling) }
+agedGauge g = withCeiling (halfDown (g .ceiling)) (withTotal (halfDown (g .total)) g)
 
 unfoldable pub aged : Memory → Memory
 aged m = withGauge (agedGauge (m .gauge)) (withTable (changeAll agedRecord (m .table) (size m)) m)
@@ -37,10 +37,27 @@ aged m = withGauge (agedGauge (m .gauge)) (withTable (changeAll agedRecord (m .t
 unfoldable pub ageSteps : Memory → Outcome Answer Memory
 ageSteps m = outcome Aged (aged m)
 
+-- ---- a ticket is given
+-- | Each time a line is taken, and each time an update reaches a class that keeps its line, the serial grows by 1 and becomes
+-- | that record's ticket. (Document 02)
+unfoldable pub nextTicket : Memory → ℕ
+nextTicket m = m .gauge .serial + 1
+
+unfoldable pub ticketed : Memory → Memory
+ticketed m = withGauge (withSerial (nextTicket m) (m .gauge)) m
+
+-- what a call may give: one ticket, or none
+abbrev pub GivesOne : Memory → Memory → Type 0
+GivesOne m after = (m .gauge .serial ≤ after .gauge .serial) × (after .gauge .serial ≤ nextTicket m)
+
+-- the class at place i keeps its line
+unfoldable pub renew : Memory → ℕ → Memory
+renew m i = write (ticketed m) i (withTicket (nextTicket m) (places m i))
+
 -- ---- a line goes to a record
 -- | it takes .. [the] line. .. A line just taken is empty.
 unfoldable pub giveLine : Memory → ℕ → ℕ → Memory
-giveLine m i n = write m i (onEmptyLine n (places m i))
+giveLine m i n = write (ticketed m) i (onEmptyLine n (nextTicket m) (places m i))
 
 -- | it takes that record's line and that record's state becomes 1
 unfoldable pub handOver : Memory → ℕ → ℕ → Memory
@@ -53,7 +70,7 @@ decayFor w m = if ltb mostTotal (m .gauge .total + w) then aged m else m
 
 -- | Then total grows by w.
 unfoldable pub grown : ℕ → Memory → Memory
-grown w m = withGauge (record { total = m .gauge .total + w; ceiling = m .gauge .ceiling }) m
+grown w m = withGauge (withTotal (m .gauge .total + w) (m .gauge)) m
 
 -- | 3. .. gets key, heat ceiling + w, slack ceiling, state 1.
 unfoldable pub track : Memory → ℕ → ℕ → ℕ → Memory
@@ -61,7 +78,7 @@ track m key w i = write m i (newRecord key (m .gauge .ceiling) w)
 
 -- | 4. .. Ceiling becomes the larger of ceiling and the victim's heat.
 unfoldable pub raised : ℕ → Memory → Memory
-raised heat m = withGauge (record { total = m .gauge .total; ceiling = max (m .gauge .ceiling) heat }) m
+raised heat m = withGauge (withCeiling (max (m .gauge .ceiling) heat) (m .gauge)) m
 
 -- | The victim's record then gets the key, heat ceiling + w, slack ceiling, state 1.
 unfoldable pub evict : Memory → ℕ → ℕ → ℕ → Record → Memory
@@ -81,8 +98,9 @@ unfoldable pub admit : Memory → ℕ → Memory
 admit m i = if isLined (places m i) then m else promote m i (lowestUnused (places m) (size m) (lineTotal m))
 
 -- | 6. Answer: hit with the line number if its line is filled; wanted with the number if empty; passed if it has no line.
+-- | .. Wanted carries the ticket (document 02)
 unfoldable pub readAnswer : Record → Answer
-readAnswer r = if isFilled r then Hit (lineOf r) else if isLined r then Wanted (lineOf r) else Passed
+readAnswer r = if isFilled r then Hit (lineOf r) else if isLined r then Wanted (lineOf r) (r .ticket) else Passed
 
 unfoldable pub admission : ℕ → Memory → Outcome Answer Memory
 admission i m = outcome (readAnswer (places (admit m i) i)) (admit m i)
@@ -122,10 +140,10 @@ readSteps m key w = if eqb w 0 then peekSteps m key else warmSteps m key w
 
 -- ---- Update
 -- | If it has a line and the hottest record without one (first among equals) is now strictly hotter, that record takes the
--- | line, empty, and the key's state becomes 1.
+-- | line, empty, and the key's state becomes 1. (Otherwise it keeps its line, and gets a new ticket: document 02.)
 unfoldable pub demoteFor : Memory → ℕ → Found → Memory
-demoteFor m i Nowhere = m
-demoteFor m i (At j r) = if hotter r (places m i) then handOver m i j else m
+demoteFor m i Nowhere = renew m i
+demoteFor m i (At j r) = if hotter r (places m i) then handOver m i j else renew m i
 
 unfoldable pub demote : Memory → ℕ → Memory
 demote m i = if isLined (places m i) then demoteFor m i (hottestUnlined (places m) (size m)) else m
@@ -140,26 +158,30 @@ unfoldable pub updateSteps : Memory → ℕ → ℕ → Outcome Answer Memory
 updateSteps m key w = change m w (keyRecord key (places m) (size m))
 
 -- ---- Fill
--- | if there is none, or it has no line, the call ends there with 5; if the line is filled, with 6. Otherwise the 64 bytes are
--- | written into that line's part of the lent lines, and the state becomes filled. Answer: stored.
-unfoldable pub store : Memory → List ℕ → Lookup → Outcome Answer Memory
-store m picture Untracked = outcome (Refused noLine) m
-store m picture Unlined = outcome (Refused noLine) m
-store m picture (Lined i n true) = outcome (Refused alreadyFilled) m
-store m picture (Lined i n false) =
-    outcome Stored (withLines (putLine (m .lines) n picture) (write m i (filled (places m i))))
+-- | the 64 bytes are written into that line's part of the lent lines, and the state becomes filled. Answer: stored.
+unfoldable pub storeIn : Memory → ℕ → ℕ → List ℕ → Outcome Answer Memory
+storeIn m i n picture = outcome Stored (withLines (putLine (m .lines) n picture) (write m i (filled (places m i))))
+
+-- | if there is none, or it has no line, the call ends there with 5; if the line is filled, with 6. .. a fill must bring [the
+-- | ticket] back .. 9, a fill with another ticket, tested after 6 (document 02). Otherwise the 64 bytes are written
+unfoldable pub store : Memory → List ℕ → ℕ → Lookup → Outcome Answer Memory
+store m picture ticket Untracked = outcome (Refused noLine) m
+store m picture ticket Unlined = outcome (Refused noLine) m
+store m picture ticket (Lined i n true given) = outcome (Refused alreadyFilled) m
+store m picture ticket (Lined i n false given) =
+    if eqb ticket given then storeIn m i n picture else outcome (Refused staleTicket) m
 
 -- | The key's record is looked up
-unfoldable pub fillSteps : Memory → ℕ → List ℕ → Outcome Answer Memory
-fillSteps m key picture = store m picture (lookup (places m) (size m) key)
+unfoldable pub fillSteps : Memory → ℕ → List ℕ → ℕ → Outcome Answer Memory
+fillSteps m key picture ticket = store m picture ticket (lookup (places m) (size m) key)
 
 -- ---- Show
 -- | the line when the key's record is on a filled line, else the stand-in
 unfoldable pub shownLine : Lookup → Option ℕ
 shownLine Untracked = none
 shownLine Unlined = none
-shownLine (Lined i n true) = some n
-shownLine (Lined i n false) = none
+shownLine (Lined i n true ticket) = some n
+shownLine (Lined i n false ticket) = none
 
 -- ---- Levelled sum
 -- | the larger of heat and ceiling; free records count with heat 0

@@ -51,16 +51,33 @@ emptyState n = 2 + 2 * n
 unfoldable pub filledState : ℕ → ℕ
 filledState n = 3 + 2 * n
 
--- | (all four numbers are 0)
+-- | (all .. numbers are 0)
 unfoldable pub isZero : Record → Bool
-isZero r = eqb (r .key) 0 && eqb (r .heat) 0 && eqb (r .slack) 0 && eqb (r .state) 0
+isZero r = eqb (r .key) 0 && eqb (r .heat) 0 && eqb (r .slack) 0 && eqb (r .state) 0 && eqb (r .ticket) 0
+
+-- ---- a record, or a gauge, with one number changed
+abbrev pub withHeat : ℕ → Record → Record
+withHeat h r = record { key = r .key; heat = h; slack = r .slack; state = r .state; ticket = r .ticket }
+
+abbrev pub withSlack : ℕ → Record → Record
+withSlack s r = record { key = r .key; heat = r .heat; slack = s; state = r .state; ticket = r .ticket }
+
+abbrev pub withState : ℕ → Record → Record
+withState s r = record { key = r .key; heat = r .heat; slack = r .slack; state = s; ticket = r .ticket }
+
+abbrev pub withTicket : ℕ → Record → Record
+withTicket t r = record { key = r .key; heat = r .heat; slack = r .slack; state = r .state; ticket = t }
+
+abbrev pub withTotal : ℕ → Gauge → Gauge
+withTotal n g = record { total = n; ceiling = g .ceiling; serial = g .serial }
+
+abbrev pub withCeiling : ℕ → Gauge → Gauge
+withCeiling n g = record { total = g .total; ceiling = n; serial = g .serial }
+
+abbrev pub withSerial : ℕ → Gauge → Gauge
+withSerial n g = record { total = g .total; ceiling = g .ceiling; serial = n }
 
 -- ---- what can happen to a record
-unfoldable pub withHeat : ℕ → Record → Record
-withHeat h r = record { key = r .key; heat = h; slack = r .slack; state = r .state }
-
-unfoldable pub withState : ℕ → Record → Record
-withState s r = record { key = r .key; heat = r .heat; slack = r .slack; state = s }
 
 -- | its heat grows by w
 unfoldable pub heated : ℕ → Record → Record
@@ -78,23 +95,23 @@ halfUp n = (n + 1) / 2
 
 -- | Every heat becomes half, rounded down. Every slack becomes half, rounded up. (Half-life decay.)
 unfoldable pub agedRecord : Record → Record
-agedRecord r = record { key = r .key; heat = halfDown (r .heat); slack = halfUp (r .slack); state = r .state }
+agedRecord r = withSlack (halfUp (r .slack)) (withHeat (halfDown (r .heat)) r)
 
--- | gets key, heat ceiling + w, slack ceiling, state 1
+-- | gets key, heat ceiling + w, slack ceiling, state 1. .. [The ticket] is 0 .. for records without a line (document 02)
 unfoldable pub newRecord : ℕ → ℕ → ℕ → Record
-newRecord key ceiling w = record { key = key; heat = ceiling + w; slack = ceiling; state = 1 }
+newRecord key ceiling w = record { key = key; heat = ceiling + w; slack = ceiling; state = 1; ticket = 0 }
 
--- | that record's state becomes 1
+-- | that record's state becomes 1, and its ticket 0, as for all records without a line
 unfoldable pub unlined : Record → Record
-unlined = withState 1
+unlined r = withTicket 0 (withState 1 r)
 
--- | A line just taken is empty
-unfoldable pub onEmptyLine : ℕ → Record → Record
-onEmptyLine n = withState (emptyState n)
+-- | A line just taken is empty. .. the serial .. becomes that record's ticket
+unfoldable pub onEmptyLine : ℕ → ℕ → Record → Record
+onEmptyLine n ticket r = withTicket ticket (withState (emptyState n) r)
 
 -- | a line it has becomes empty
 unfoldable pub emptied : Record → Record
-emptied r = if isLined r then onEmptyLine (lineOf r) r else r
+emptied r = if isLined r then withState (emptyState (lineOf r)) r else r
 
 -- | the state becomes filled
 unfoldable pub filled : Record → Record
@@ -140,7 +157,7 @@ lowestUnused f n lines = lowestNot (isUsed f n) lines
 -- | The key's record is looked up; if there is none, or it has no line ..; if the line is filled ..
 unfoldable pub lookedUp : Found → Lookup
 lookedUp Nowhere = Untracked
-lookedUp (At i r) = if isLined r then Lined i (lineOf r) (isFilled r) else Unlined
+lookedUp (At i r) = if isLined r then Lined i (lineOf r) (isFilled r) (r .ticket) else Unlined
 
 unfoldable pub lookup : (ℕ → Record) → ℕ → ℕ → Lookup
 lookup f n key = lookedUp (keyRecord key f n)
@@ -151,8 +168,13 @@ abbrev pub mostTotal : ℕ
 mostTotal = 4294967295
 
 -- | every heat at most total; every state is at most 1 + 2 × C; every free record is all zero
+-- | [The ticket] is 0 .. for records without a line; a table with another there is not in order (document 02)
 unfoldable pub recordInOrder : ℕ → ℕ → Record → Bool
-recordInOrder total lines r = leb (r .heat) total && leb (r .state) (1 + 2 * lines) && (isTracked r || isZero r)
+recordInOrder total lines r =
+    leb (r .heat) total
+    && leb (r .state) (1 + 2 * lines)
+    && (isTracked r || isZero r)
+    && (isLined r || eqb (r .ticket) 0)
 
 -- | A table is in order when: total is at most L; ceiling and every heat are at most total; .. at most C records are on lines.
 -- | Doubled keys or lines are not tested
@@ -192,9 +214,9 @@ changeAll change table zero = table
 changeAll change table (suc n) =
     putRecord (changeAll change table n) n (change (recordAt (changeAll change table n) n))
 
--- | Fresh: every table byte and the gauge are zero. The lines keep their bytes.
+-- | Fresh: every table byte and the gauge are zero. The lines keep their bytes. .. [The serial] is 0 in a fresh table (document 02)
 unfoldable pub freshGauge : Gauge
-freshGauge = record { total = 0; ceiling = 0 }
+freshGauge = record { total = 0; ceiling = 0; serial = 0 }
 
 unfoldable pub freshMemory : Memory → Memory
 freshMemory m = record { table = replicate (length (m .table)) 0; gauge = freshGauge; lines = m .lines }

@@ -5,6 +5,8 @@
 pub const MOST_TOTAL: u64 = 4294967295;
 // The most that a read or an update may weigh.
 pub const MOST_WEIGHT: u64 = 65535;
+// The serial at which no more tickets are given.
+pub const SERIAL_LIMIT: u64 = 9223372036854775808;
 // The most records that a table may have.
 pub const MOST_RECORDS: usize = 1024;
 
@@ -25,6 +27,10 @@ pub const UNKNOWN_FORM: u64 = 7;
 
 pub const SHORT_END: u64 = 8;
 
+pub const STALE_TICKET: u64 = 9;
+
+pub const SERIAL_SPENT: u64 = 10;
+
 // One of the table's records: a class that is tracked, or a free place.
 pub struct Record {
     // The class.
@@ -35,14 +41,18 @@ pub struct Record {
     pub slack: u64,
     // Free, tracked, or on a cache line that is empty or filled (specs/Table.antt).
     pub state: u64,
+    // Names the turn in which its line waits for a picture; 0 without a line.
+    pub ticket: u64,
 }
 
-// The two numbers that go with a table.
+// The three numbers that go with a table.
 pub struct Gauge {
     // All weight read so far, halved by each aging.
     pub total: u64,
     // Bounds the true heat of every class that has no record.
     pub ceiling: u64,
+    // The last ticket that was given.
+    pub serial: u64,
 }
 
 // What a search of the table finds: the place of a record, with the record itself.
@@ -57,11 +67,12 @@ pub enum Lookup {
     Untracked,
     // A record without a line.
     Unlined,
-    // A record on a line, and whether the line is filled.
+    // A record on a line, whether the line is filled, and the record's ticket.
     Lined {
         place: usize,
         line: usize,
         filled: bool,
+        ticket: u64,
     },
 }
 
@@ -73,7 +84,8 @@ pub enum Answer {
     Stored,
     Passed,
     Hit(u64),
-    Wanted(u64),
+    // The line, and the ticket that its fill has to bring.
+    Wanted(u64, u64),
     Refused(u64),
 }
 
@@ -109,9 +121,19 @@ pub enum Levels {
 
 // One journal record, decoded. A fill's picture is given by its place in the journal.
 pub enum Entry {
-    Read { key: u64, weight: u64 },
-    Update { key: u64, weight: u64 },
-    Fill { key: u64, picture: usize },
+    Read {
+        key: u64,
+        weight: u64,
+    },
+    Update {
+        key: u64,
+        weight: u64,
+    },
+    Fill {
+        key: u64,
+        picture: usize,
+        ticket: u64,
+    },
     Age,
     Refused(u64),
     Done,

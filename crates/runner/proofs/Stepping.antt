@@ -19,7 +19,7 @@ use Rattle.rules.specs.Answers.{unknownForm, shortEnd, readKind, updateKind, fi
 use Rattle.rules.specs.Pass.{if_then_else_}
 use Rattle.rules.specs.Table.{Memory}
 use Rattle.rules.specs.Steps.{Outcome}
-use Rattle.rules.specs.Journal.{Run, entrySize, kindAt, gapsZero, pictureZero, weightZero, keyZero, keyAt, weightAt, wholeEntry, ofForm, picturePlace, decoded, entryAt, printed, rowOf, printing, performed, isEnd, perform}
+use Rattle.rules.specs.Journal.{Run, entrySize, kindAt, gapsZero, pictureZero, weightZero, keyZero, ticketZero, keyAt, weightAt, ticketAt, wholeEntry, ofForm, picturePlace, decoded, entryAt, printed, rowOf, printing, performed, isEnd, perform}
 use Rattle.runner.specs.declared.Progress.{Progress}
 use Rattle.rows.specs.Written.{rowSize, Puts}
 use Rattle.runner.specs.Progress.{PictureInside, Runs, Steps}
@@ -30,7 +30,7 @@ use Rattle.rows.proofs.Written.{written-length, puts-join, printed-last}
 module _ (journal : List ℕ) where
   -- an entry of another kind has no picture
   no-fill : (entry : Entry) → tagOf the-type entry ≢ 2 → PictureInside journal entry
-  no-fill entry other = record { inside = λ key place e. absurd (other (ap (λ (x : Entry). tagOf the-type x) e)) }
+  no-fill entry other = record { inside = λ key place ticket e. absurd (other (ap (λ (x : Entry). tagOf the-type x) e)) }
 
   either : {A : Type 0} (entry : A → Entry) (b : Bool) (x y : A) → PictureInside journal (entry x) →
       (b ≡ false → PictureInside journal (entry y)) → PictureInside journal (entry (if b then x else y))
@@ -49,16 +49,17 @@ module _ (journal : List ℕ) where
       let weight = weightAt journal at in
       let gaps = gapsZero journal at in
       let blank = pictureZero journal at in
-      either (λ x. x) (eqb (kindAt journal at) readKind) _ _ (formed (gaps && blank) _ (no-fill (Read key weight) (omega arith))) λ _.
-      either (λ x. x) (eqb (kindAt journal at) updateKind) _ _ (formed (gaps && blank) _ (no-fill (Update key weight) (omega arith))) λ _.
-      either (λ x. x) (eqb (kindAt journal at) fillKind) _ _ (formed (gaps && weightZero journal at) _ (fill key)) λ _.
+      let bare = ticketZero journal at in
+      either (λ x. x) (eqb (kindAt journal at) readKind) _ _ (formed (gaps && blank && bare) _ (no-fill (Read key weight) (omega arith))) λ _.
+      either (λ x. x) (eqb (kindAt journal at) updateKind) _ _ (formed (gaps && blank && bare) _ (no-fill (Update key weight) (omega arith))) λ _.
+      either (λ x. x) (eqb (kindAt journal at) fillKind) _ _ (formed (gaps && weightZero journal at) _ (fill key (ticketAt journal at))) λ _.
       formed
-      (eqb (kindAt journal at) ageKind && gaps && weightZero journal at && blank && keyZero journal at)
+      (eqb (kindAt journal at) ageKind && gaps && weightZero journal at && blank && keyZero journal at && bare)
       _
       (no-fill Age (omega arith))
     where
-      fill : (key : ℕ) → PictureInside journal (Fill key (at + 16))
-      fill key = record { inside = λ k place e. let same : at + 16 ≡ place = cc in omega arith }
+      fill : (key ticket : ℕ) → PictureInside journal (Fill key (at + 16) ticket)
+      fill key ticket = record { inside = λ k place t e. let same : at + 16 ≡ place = cc in omega arith }
 
   pub picture-inside : (at : ℕ) → PictureInside journal (entryAt journal at .entry)
   unfolding entryAt decoded

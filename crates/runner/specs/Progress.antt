@@ -17,7 +17,7 @@ use Rattle.rows.specs.Written.{rowSize, Puts}
 
 -- a fill's picture lies in the journal
 pub record PictureInside (journal : List ℕ) (entry : Entry) : Type 0 where
-  pub inside : (key place : ℕ) → entry ≡ Fill key place → place + lineSize ≤ length journal
+  pub inside : (key place ticket : ℕ) → entry ≡ Fill key place ticket → place + lineSize ≤ length journal
 
 -- a run has come so far: memory and numbers are the run's, and its rows are written from the start of what the output was
 pub record Runs (run : Run) (out₀ : List ℕ) (q : Progress) (m : Memory) (out : List ℕ) : Type 0 where

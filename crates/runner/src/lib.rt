@@ -30,13 +30,18 @@ fn perform(table: &mut [u8], gauge: Gauge, lines: &mut [u8], journal: &[u8], ent
     match entry {
         Entry::Read { key, weight } => cache::read(table, gauge, lines, key, weight),
         Entry::Update { key, weight } => cache::update(table, gauge, lines, key, weight),
-        Entry::Fill { key, picture } => {
+        Entry::Fill {
+            key,
+            picture,
+            ticket,
+        } => {
             let answer = cache::fill(
                 table,
                 gauge,
                 lines,
                 key,
                 &journal[picture..picture + LINE_SIZE],
+                ticket,
             );
             Reply { answer, gauge }
         }

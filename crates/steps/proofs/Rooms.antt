@@ -10,7 +10,7 @@ use Rattle.rules.specs.declared.Gauge.{Gauge}
 use Rattle.rules.specs.Replay.{at}
 use Rattle.rules.specs.Table.{Memory, agedRecord, halfDown, newRecord, mostTotal, places, size, lineTotal, withTable, withGauge, write}
 use Rattle.rules.specs.Steps.{aged, agedGauge, track}
-use Rattle.rules.specs.Calls.{mostWeight, sizesGood, orderGood}
+use Rattle.rules.specs.Calls.{mostWeight, serialLimit, sizesGood, orderGood}
 use Rattle.rules.proofs.Words.{IsBytes}
 use Rattle.rules.proofs.Places.{IsRecord}
 use Rattle.rules.proofs.Changes.{at-same, at-other}
@@ -66,6 +66,11 @@ track-fits m key w i lines heats inside key-fits weight =
     let most = heats .ceiling in
     let r = newRecord key (m .gauge .ceiling) w in
     (lines-write m i r lines inside (omega arith) (omega arith), heats-write m i r heats inside (omega arith) (omega arith))
+
+-- and no ticket is given
+pub serial-track : (m n : Memory) (key w i : ℕ) → n ≡ track m key w i → m .gauge .serial < serialLimit → n .gauge .serial < serialLimit
+unfolding track write withTable
+serial-track m n key w i e below = rw e below
 
 pub lines-gauge : (m : Memory) (g : Gauge) → LinesFit m → LinesFit (withGauge g m)
 unfolding withGauge places size lineTotal

@@ -3,7 +3,7 @@ ghost use mathlib.Core.Path.{_≡_};
 ghost use Prim.Native.Nat.{_≤_, _<_, _^_};
 ghost use Rattle.rules.specs.Bytes.{recordAt, recordCount};
 ghost use Rattle.rules.specs.Table.{mostTotal, agedRecord, keyRecord, freeRecord, victim, changeAll};
-ghost use Rattle.rules.specs.Calls.{mostWeight, lent, left};
+ghost use Rattle.rules.specs.Calls.{mostWeight, serialLimit, lent, left};
 ghost use Rattle.rules.specs.declared.Found.the-variants.{Nowhere};
 ghost use Rattle.rules.specs.Answers.{numberOf};
 ghost use Rattle.rules.specs.Steps.{aged, decayFor, track, admission, place, readCounted, peekAnswer, readSteps, updateSteps};
@@ -15,6 +15,8 @@ use fields::emptied;
 use fields::heated;
 use fields::new_record;
 use fields::read_answer;
+use fields::with_ceiling;
+use fields::with_total;
 use lines::admit;
 use lines::demote;
 use records::RECORD_SIZE;
@@ -46,10 +48,7 @@ pub fn age_all(table: &mut [u8], gauge: Gauge, lines: &[u8]) -> Gauge
     ensures { λ g. ⌜ lent (now (table .exit)) g (now (lines .entry)) ≡ aged (lent (now (table .entry)) gauge (now (lines .entry))) ⌝ }
 {
     age_records(table);
-    Gauge {
-        total: gauge.total / 2,
-        ceiling: gauge.ceiling / 2,
-    }
+    with_ceiling(gauge.ceiling / 2, with_total(gauge.total / 2, gauge))
 }
 
 // ---- Read
@@ -67,7 +66,7 @@ fn decay_for(table: &mut [u8], gauge: Gauge, lines: &[u8], weight: u64) -> Gauge
 
 // Steps 5 and 6.
 fn admission(table: &mut [u8], gauge: Gauge, lines: &[u8], i: usize) -> Reply
-    requires { ⌜ (i < recordCount (now table)) × LinesFit (lent (now table) gauge (now lines)) × HeatsBelow (lent (now table) gauge (now lines)) ⌝ }
+    requires { ⌜ (i < recordCount (now table)) × LinesFit (lent (now table) gauge (now lines)) × HeatsBelow (lent (now table) gauge (now lines)) × (gauge .serial < serialLimit) ⌝ }
     ensures { λ r. ⌜ left r (now (table .exit)) (now (lines .entry)) ≡ admission i (lent (now (table .entry)) gauge (now (lines .entry))) ⌝ }
     ensures { λ r. ⌜ numberOf (r .answer) < 2 ^ 64 ⌝ }
 {
@@ -95,7 +94,7 @@ fn read_evicting(
     weight: u64,
     coldest: Found,
 ) -> Reply
-    requires { ⌜ (weight ≤ mostWeight) × HeatsFit (lent (now table) gauge (now lines)) × LinesFit (lent (now table) gauge (now lines)) × (coldest ≡ victim (recordAt (now table)) (recordCount (now table))) ⌝ }
+    requires { ⌜ (weight ≤ mostWeight) × HeatsFit (lent (now table) gauge (now lines)) × LinesFit (lent (now table) gauge (now lines)) × (gauge .serial < serialLimit) × (coldest ≡ victim (recordAt (now table)) (recordCount (now table))) ⌝ }
     ensures { λ r. ⌜ left r (now (table .exit)) (now (lines .entry)) ≡ place (lent (now (table .entry)) gauge (now (lines .entry))) key weight Nowhere Nowhere (victim (recordAt (now (table .entry))) (recordCount (now (table .entry)))) ⌝ }
     ensures { λ r. ⌜ numberOf (r .answer) < 2 ^ 64 ⌝ }
 {
@@ -110,17 +109,14 @@ fn read_evicting(
     } else {
         gauge.ceiling
     };
-    let raised = Gauge {
-        total: gauge.total,
-        ceiling,
-    };
+    let raised = with_ceiling(ceiling, gauge);
     let after = track(table, raised, lines, key, weight, i);
     admission(table, after, lines, i)
 }
 
 // Steps 3 and 4.
 fn read_untracked(table: &mut [u8], gauge: Gauge, lines: &[u8], key: u64, weight: u64) -> Reply
-    requires { ⌜ (weight ≤ mostWeight) × HeatsFit (lent (now table) gauge (now lines)) × LinesFit (lent (now table) gauge (now lines)) ⌝ }
+    requires { ⌜ (weight ≤ mostWeight) × HeatsFit (lent (now table) gauge (now lines)) × LinesFit (lent (now table) gauge (now lines)) × (gauge .serial < serialLimit) ⌝ }
     ensures { λ r. ⌜ left r (now (table .exit)) (now (lines .entry)) ≡ place (lent (now (table .entry)) gauge (now (lines .entry))) key weight Nowhere (freeRecord (recordAt (now (table .entry))) (recordCount (now (table .entry)))) (victim (recordAt (now (table .entry))) (recordCount (now (table .entry)))) ⌝ }
     ensures { λ r. ⌜ numberOf (r .answer) < 2 ^ 64 ⌝ }
 {
@@ -136,7 +132,7 @@ fn read_untracked(table: &mut [u8], gauge: Gauge, lines: &[u8], key: u64, weight
 
 // Steps 2 to 6.
 fn read_counted(table: &mut [u8], gauge: Gauge, lines: &[u8], key: u64, weight: u64) -> Reply
-    requires { ⌜ (weight ≤ mostWeight) × HeatsFit (lent (now table) gauge (now lines)) × LinesFit (lent (now table) gauge (now lines)) ⌝ }
+    requires { ⌜ (weight ≤ mostWeight) × HeatsFit (lent (now table) gauge (now lines)) × LinesFit (lent (now table) gauge (now lines)) × (gauge .serial < serialLimit) ⌝ }
     ensures { λ r. ⌜ left r (now (table .exit)) (now (lines .entry)) ≡ readCounted (lent (now (table .entry)) gauge (now (lines .entry))) key weight ⌝ }
     ensures { λ r. ⌜ numberOf (r .answer) < 2 ^ 64 ⌝ }
 {
@@ -161,7 +157,7 @@ fn peek(table: &[u8], key: u64) -> Answer
 }
 
 pub fn read_steps(table: &mut [u8], gauge: Gauge, lines: &[u8], key: u64, weight: u64) -> Reply
-    requires { ⌜ (gauge .total ≤ mostTotal) × (weight ≤ mostWeight) × HeatsFit (lent (now table) gauge (now lines)) × LinesFit (lent (now table) gauge (now lines)) ⌝ }
+    requires { ⌜ (gauge .total ≤ mostTotal) × (weight ≤ mostWeight) × HeatsFit (lent (now table) gauge (now lines)) × LinesFit (lent (now table) gauge (now lines)) × (0 < weight → gauge .serial < serialLimit) ⌝ }
     ensures { λ r. ⌜ left r (now (table .exit)) (now (lines .entry)) ≡ readSteps (lent (now (table .entry)) gauge (now (lines .entry))) key weight ⌝ }
     ensures { λ r. ⌜ numberOf (r .answer) < 2 ^ 64 ⌝ }
 {
@@ -170,17 +166,14 @@ pub fn read_steps(table: &mut [u8], gauge: Gauge, lines: &[u8], key: u64, weight
         return Reply { answer, gauge };
     }
     let decayed = decay_for(table, gauge, lines, weight);
-    let grown = Gauge {
-        total: decayed.total + weight,
-        ceiling: decayed.ceiling,
-    };
+    let grown = with_total(decayed.total + weight, decayed);
     read_counted(table, grown, lines, key, weight)
 }
 
 // ---- Update
 
 pub fn update_steps(table: &mut [u8], gauge: Gauge, lines: &[u8], key: u64, weight: u64) -> Reply
-    requires { ⌜ LinesFit (lent (now table) gauge (now lines)) ⌝ }
+    requires { ⌜ LinesFit (lent (now table) gauge (now lines)) × (gauge .serial < serialLimit) ⌝ }
     ensures { λ r. ⌜ left r (now (table .exit)) (now (lines .entry)) ≡ updateSteps (lent (now (table .entry)) gauge (now (lines .entry))) key weight ⌝ }
     ensures { λ r. ⌜ numberOf (r .answer) < 2 ^ 64 ⌝ }
 {

@@ -65,6 +65,7 @@ pub fn lookup(table: &[u8], key: u64) -> Lookup
                     place: i,
                     line: line_of(r),
                     filled: is_filled(r),
+                    ticket: r.ticket,
                 }
             } else {
                 Lookup::Unlined

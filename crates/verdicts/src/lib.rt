@@ -4,7 +4,7 @@ ghost use mathlib.Core.List.{[], _∷_};
 ghost use Prim.Native.Nat.{_≤_};
 ghost use Rattle.rules.specs.Bytes.{recordAt, recordCount};
 ghost use Rattle.rules.specs.Table.{recordInOrder, inOrder};
-ghost use Rattle.rules.specs.Calls.{mostRecords, lent, sizesGood, must, verdict, sizesTest, orderTest, readVerdict, updateVerdict, fillVerdict, plainVerdict};
+ghost use Rattle.rules.specs.Calls.{mostRecords, lent, sizesGood, must, verdict, sizesTest, orderTest, serialTest, readVerdict, updateVerdict, fillVerdict, plainVerdict};
 use fields::is_lined;
 use fields::is_zero;
 use records::LINE_SIZE;
@@ -16,6 +16,8 @@ use rules::MOST_TOTAL;
 use rules::MOST_WEIGHT;
 use rules::NOT_IN_ORDER;
 use rules::Record;
+use rules::SERIAL_LIMIT;
+use rules::SERIAL_SPENT;
 use rules::Verdict;
 use rules::WRONG_PICTURE;
 use rules::WRONG_SIZES;
@@ -51,7 +53,10 @@ fn record_in_order(r: Record, total: u64, lines: usize) -> bool
     if total < r.heat {
         return false;
     }
-    if 1 + 2 * (lines as u64) < r.state {
+    if 1 < r.state {
+        return r.state <= 1 + 2 * (lines as u64);
+    }
+    if r.ticket != 0 {
         return false;
     }
     if 0 < r.state {
@@ -90,9 +95,17 @@ pub fn in_order(table: &[u8], gauge: Gauge, lines: usize) -> bool
 
 // ---- the tests of a call
 
-// The tests of sizes and of order, with a test of the call's own between them: whether it was good, and its number.
-fn checked(table: &[u8], gauge: Gauge, lines: &[u8], good: bool, number: u64) -> Verdict
-    ensures { λ v. ⌜ v ≡ verdict (sizesTest (lent (now (table .entry)) gauge (now (lines .entry))) ∷ must good number ∷ orderTest (lent (now (table .entry)) gauge (now (lines .entry))) ∷ []) ⌝ }
+// The tests of sizes and of order, with a test of the call's own between them: whether it was good, and its number. Last, whether the
+// serial was good for it.
+fn checked(
+    table: &[u8],
+    gauge: Gauge,
+    lines: &[u8],
+    good: bool,
+    number: u64,
+    serial_good: bool,
+) -> Verdict
+    ensures { λ v. ⌜ v ≡ verdict (sizesTest (lent (now (table .entry)) gauge (now (lines .entry))) ∷ must good number ∷ orderTest (lent (now (table .entry)) gauge (now (lines .entry))) ∷ serialTest «serial_good» ∷ []) ⌝ }
 {
     if !sizes_good(table, lines) {
         return Verdict::Refused(WRONG_SIZES);
@@ -103,6 +116,9 @@ fn checked(table: &[u8], gauge: Gauge, lines: &[u8], good: bool, number: u64) ->
     if !in_order(table, gauge, lines.len() / LINE_SIZE) {
         return Verdict::Refused(NOT_IN_ORDER);
     }
+    if !serial_good {
+        return Verdict::Refused(SERIAL_SPENT);
+    }
     Verdict::Accepted
 }
 
@@ -110,13 +126,20 @@ fn checked(table: &[u8], gauge: Gauge, lines: &[u8], good: bool, number: u64) ->
 pub fn plain_verdict(table: &[u8], gauge: Gauge, lines: &[u8]) -> Verdict
     ensures { λ v. ⌜ v ≡ plainVerdict (lent (now (table .entry)) gauge (now (lines .entry))) ⌝ }
 {
-    checked(table, gauge, lines, true, 0)
+    checked(table, gauge, lines, true, 0, true)
 }
 
 pub fn read_verdict(table: &[u8], gauge: Gauge, lines: &[u8], weight: u64) -> Verdict
     ensures { λ v. ⌜ v ≡ readVerdict (lent (now (table .entry)) gauge (now (lines .entry))) weight ⌝ }
 {
-    checked(table, gauge, lines, weight <= MOST_WEIGHT, WRONG_WEIGHT)
+    checked(
+        table,
+        gauge,
+        lines,
+        weight <= MOST_WEIGHT,
+        WRONG_WEIGHT,
+        weight == 0 || gauge.serial < SERIAL_LIMIT,
+    )
 }
 
 pub fn update_verdict(table: &[u8], gauge: Gauge, lines: &[u8], weight: u64) -> Verdict
@@ -128,6 +151,7 @@ pub fn update_verdict(table: &[u8], gauge: Gauge, lines: &[u8], weight: u64) -> 
         lines,
         1 <= weight && weight <= MOST_WEIGHT,
         WRONG_WEIGHT,
+        gauge.serial < SERIAL_LIMIT,
     )
 }
 
@@ -140,5 +164,6 @@ pub fn fill_verdict(table: &[u8], gauge: Gauge, lines: &[u8], picture: &[u8]) ->
         lines,
         picture.len() == LINE_SIZE,
         WRONG_PICTURE,
+        gauge.serial < SERIAL_LIMIT,
     )
 }

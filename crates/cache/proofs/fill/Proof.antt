@@ -34,7 +34,7 @@ same-length-2 c = search needs
 returns : tie.Need-returns
 unfolding fillOutcome unless numberOf
 returns c =
-    (numbered (rw (← c .before .before .before .fill-verdict .ensures, c .before .verdict .given .1)) (fill-number _ _ _), search needs)
+    (numbered (rw (← c .before .before .before .fill-verdict .ensures, c .before .verdict .given .1)) (fill-number _ _ _ _), search needs)
 
 same-length-3 : tie.Need-same-length-3
 same-length-3 c = search needs
@@ -47,7 +47,7 @@ unfolding fillOutcome unless
 returns-2 c =
     let did = c .before .before .before .before in
     let accepted = did .before .before .before in (
-      numbered (rw (← accepted .before .before .fill-verdict .ensures, accepted .enum-told .given .1) (did .fill-steps .ensures .0)) (fill-number _ _ _),
+      numbered (rw (← accepted .before .before .fill-verdict .ensures, accepted .enum-told .given .1) (did .fill-steps .ensures .0)) (fill-number _ _ _ _),
       did .fill-steps .ensures .1,
     )
 

@@ -5,6 +5,7 @@ use mathlib.Core.Path.{_≡_, refl, sym, _∙_}
 use mathlib.Core.List.{List, _++_, append-nil}
 use native.Mathlib.Omega.{arith}
 use borrow.Author.Needs.{needs}
+use borrow.Author.Tests.{eq-eqb, ne-eqb}
 use borrow.Rule.Slice.PartMut.{midOf, putMid}
 use lib.ListN.{length, drop, length-take, length-drop, drop-of-length-le}
 use lib.Dec.{lit<}
@@ -12,7 +13,7 @@ use lib.Seq.{take-all}
 use Rattle.rules.specs.Bytes.{lineSize, putLine}
 use Rattle.rules.specs.Table.{places, size, withLines, write, withTable}
 use Rattle.rules.specs.Answers.{numberOf}
-use Rattle.rules.specs.Steps.{store, fillSteps}
+use Rattle.rules.specs.Steps.{store, storeIn, fillSteps}
 use Rattle.rules.specs.Calls.{lent}
 use Rattle.cache.proofs.Lined.{IsOn, lined-at, without-line}
 use Rattle.cache.proofs.fill_steps.Statement.{statement}
@@ -39,7 +40,7 @@ on-line : (c : tie.After-found) →
     IsOn (lent (args .table .now) (args .gauge) (args .lines .now)) (c .found .given .0 .0) (c .found .given .0 .1 .0)
 unfolding places size
 on-line c =
-    lined-at _ (entry c .args .key) _ _ _ (entry c .pre .1) (sym (c .before .before .lookup .ensures .0) ∙ c .found .given .1)
+    lined-at _ (entry c .args .key) _ _ _ _ (entry c .pre .1) (sym (c .before .before .lookup .ensures .0) ∙ c .found .given .1)
 
 lookup-requires : tie.Need-lookup-requires
 lookup-requires c κs = search needs
@@ -54,9 +55,9 @@ returns : tie.Need-returns
 unfolding fillSteps store places size numberOf
 returns c =
     let looked = c .before in
-    let picture = looked .before .before .before .before .before .args .picture .now in (
+    let args = looked .before .before .before .before .before .args in (
       rw (← looked .lookup .ensures .0)
-          (sym (without-line (store _ picture) _ refl refl (looked .lookup .result) (c .match .keys2))),
+          (sym (without-line (store _ (args .picture .now) (args .ticket)) _ refl refl (looked .lookup .result) (c .match .keys2))),
       lit< tt,
     )
 
@@ -69,55 +70,74 @@ returns-2 c =
     let at = c .before .before in
     (rw (← at .before .before .lookup .ensures .0, at .found .given .1, c .if1 .taken), lit< tt)
 
+same-length-3 : tie.Need-same-length-3
+same-length-3 c = search needs
+
+returns-3 : tie.Need-returns-3
+unfolding fillSteps store places size numberOf
+returns-3 c =
+    let empty = c .before in
+    let at = empty .before .before in (
+      rw (
+        ← at .before .before .lookup .ensures .0,
+        at .found .given .1,
+        empty .if1 .left,
+        ne-eqb _ _ (c .if2 .taken),
+      ),
+      lit< tt,
+    )
+
 mul-copy-picture : tie.Need-mul-copy-picture
-mul-copy-picture c = let h = on-line (c .before .before) in omega arith
+mul-copy-picture c = let h = on-line (c .before .before .before) in omega arith
 
 sub-copy-picture : tie.Need-sub-copy-picture
-sub-copy-picture c = let h = on-line (c .before .before) in omega arith
+sub-copy-picture c = let h = on-line (c .before .before .before) in omega arith
 
 part-copy-picture-start : tie.Need-part-copy-picture-start
-part-copy-picture-start c = let h = on-line (c .before .before) in omega arith
+part-copy-picture-start c = let h = on-line (c .before .before .before) in omega arith
 
 part-copy-picture-end : tie.Need-part-copy-picture-end
 part-copy-picture-end c = search needs
 
 copy-picture-requires : tie.Need-copy-picture-requires
-copy-picture-requires c κs = let h = on-line (c .before .before .before) in simp (length-take, length-drop) (omega arith)
+copy-picture-requires c κs = let h = on-line (c .before .before .before .before) in simp (length-take, length-drop) (omega arith)
 
 record-at-requires : tie.Need-record-at-requires
 unfolding size
-record-at-requires c κs = on-line (c .before .before .before .before .before .before .before) .inside
+record-at-requires c κs = on-line (c .before .before .before .before .before .before .before .before) .inside
 
 filled-requires : tie.Need-filled-requires
 unfolding places
 filled-requires c κs =
-    let h = on-line (c .before .before .before .before .before .before .before .before .before) in
+    let h = on-line (c .before .before .before .before .before .before .before .before .before .before) in
     (rw (c .before .record-at .ensures) (h .lined), rw (c .before .record-at .ensures, h .line) (h .few))
 
 put-record-requires : tie.Need-put-record-requires
 unfolding size
-put-record-requires c κs = on-line (c .before .before .before .before .before .before .before .before .before .before) .inside
-
-same-length-3 : tie.Need-same-length-3
-same-length-3 c = search needs
+put-record-requires c κs = on-line (c .before .before .before .before .before .before .before .before .before .before .before) .inside
 
 same-length-4 : tie.Need-same-length-4
 same-length-4 c = search needs
 
-returns-3 : tie.Need-returns-3
-unfolding fillSteps store places size numberOf withLines write withTable
-returns-3 c =
+same-length-5 : tie.Need-same-length-5
+same-length-5 c = search needs
+
+returns-4 : tie.Need-returns-4
+unfolding fillSteps store storeIn places size numberOf withLines write withTable
+returns-4 c =
     let put = c .before .before in
     let made = put .before in
     let read = made .before .before in
     let copied = read .before .before .before .before in
-    let empty = copied .before .before in
+    let same = copied .before .before in
+    let empty = same .before in
     let at = empty .before .before in
     let args = entry at .args in (
       rw (
         ← at .before .before .lookup .ensures .0,
         at .found .given .1,
         empty .if1 .left,
+        eq-eqb _ _ (same .if2 .left),
         put .put-record .ensures,
         made .filled .ensures,
         read .record-at .ensures,
@@ -137,6 +157,8 @@ fill-steps-spec =
     returns
     same-length-2
     returns-2
+    same-length-3
+    returns-3
     mul-copy-picture
     sub-copy-picture
     part-copy-picture-start
@@ -145,6 +167,6 @@ fill-steps-spec =
     record-at-requires
     filled-requires
     put-record-requires
-    same-length-3
     same-length-4
-    returns-3)
+    same-length-5
+    returns-4)

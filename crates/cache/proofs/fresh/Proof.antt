@@ -4,7 +4,7 @@ use Rattle.rules.specs.declared.Completion.{Completion}
 use Rattle.rules.specs.Answers.{completionSaid}
 use Rattle.rules.specs.Steps.{Outcome}
 use Rattle.rules.proofs.Numbers.{fresh-said}
-use Rattle.rules.specs.Table.{Memory, freshMemory, freshGauge}
+use Rattle.rules.specs.Table.{Memory, freshMemory}
 use Rattle.rules.specs.Calls.{verdict, sizesTest, unless, freshOutcome}
 use Rattle.rules.proofs.Branches.{fails, passes}
 use Rattle.cache.proofs.Said.{said-too}
@@ -26,17 +26,21 @@ returns c =
 clear-requires : tie.Need-clear-requires
 clear-requires c κs = search needs
 
+fresh-gauge-requires : tie.Need-fresh-gauge-requires
+fresh-gauge-requires c κs = search needs
+
 same-length-2 : tie.Need-same-length-2
 same-length-2 c = search needs
 
 returns-2 : tie.Need-returns-2
-unfolding freshOutcome unless verdict sizesTest freshMemory freshGauge
+unfolding freshOutcome unless verdict sizesTest freshMemory
 returns-2 c =
-    let sizes = c .before .before .before .before in
+    let cleared = c .before .before .before in
+    let sizes = cleared .before .before in
     said-too (λ (o : Outcome Completion Memory). completionSaid (o .answer))
-    (rw (passes (sizes .before .sizes-good .ensures) (sizes .if1 .left), c .before .before .clear .ensures)) (fresh-said _)
+    (rw (passes (sizes .before .sizes-good .ensures) (sizes .if1 .left), cleared .clear .ensures, c .fresh-gauge .ensures)) (fresh-said _)
 
 pub fresh-spec : {M : Type 1} → statement M
 fresh-spec =
     tie.close
-    (tie.spec sizes-good-requires same-length returns clear-requires same-length-2 returns-2)
+    (tie.spec sizes-good-requires same-length returns clear-requires fresh-gauge-requires same-length-2 returns-2)

@@ -7,10 +7,10 @@ use denote.Ref.{now}
 use Rattle.rules.specs.Answers.{numberOf}
 use Rattle.rules.specs.Calls.{unless, readOutcome}
 use Rattle.rules.proofs.Words.{IsBytes}
-use Rattle.rules.proofs.Answered.{read-number}
+use Rattle.rules.proofs.Answered.{read-said}
 use Rattle.rules.proofs.Verdicts.{read-accepted}
 use Rattle.steps.proofs.Rooms.{order-fits}
-use Rattle.cache.proofs.Said.{numbered}
+use Rattle.cache.proofs.Said.{answered}
 use Rattle.cache.proofs.read.Statement.{statement}
 use Rattle.cache.proofs.read.Tie as tie
 
@@ -27,7 +27,7 @@ read-steps-requires : tie.Need-read-steps-requires
 read-steps-requires c κs =
     let told = read-accepted _ _ (sym (c .before .before .before .read-verdict .ensures) ∙ c .before .enum-told .given .1) in
     let (total, heats, lines) = order-fits _ (told .sizes) (told .order) in
-    (total, told .good, heats, lines)
+    (total, told .good, heats, lines, told .serial)
 
 same-length : tie.Need-same-length
 same-length c = search needs
@@ -37,7 +37,7 @@ unfolding readOutcome unless numberOf
 returns c =
     let known = c .before .before .before .before .before .before in
     let bytes : IsBytes (now (known .before .args .table)) = record { below = λ i. known .slice-known .given i .fits } in (
-      numbered (rw (← c .before .before .before .read-verdict .ensures, c .before .verdict .given .1)) (read-number _ _ _ bytes (omega arith)),
+      answered (rw (← c .before .before .before .read-verdict .ensures, c .before .verdict .given .1)) (read-said _ _ _ bytes (omega arith)),
       omega arith,
     )
 
@@ -51,7 +51,7 @@ returns-2 c =
     let known = told .before .before .before .before .before in
     let bytes : IsBytes (now (known .before .args .table)) = record { below = λ i. known .slice-known .given i .fits } in
     let done = c .before .before .read-steps .ensures in (
-      numbered (rw (← told .before .before .read-verdict .ensures, told .enum-told .given .1) (done .0)) (read-number _ _ _ bytes (omega arith)),
+      answered (rw (← told .before .before .read-verdict .ensures, told .enum-told .given .1) (done .0)) (read-said _ _ _ bytes (omega arith)),
       done .1,
     )
 

@@ -29,7 +29,7 @@ on-line c =
     let accepted = looked .before in
     let a = plain-accepted _ (sym (accepted .before .before .plain-verdict .ensures) ∙ accepted .enum-told .given .1) in
     let fits = order-fits _ (a .sizes) (a .order) .2 in
-    lined-at _ (entry c .args .key) _ _ _ fits (sym (looked .lookup .ensures .0) ∙ c .line .given .1)
+    lined-at _ (entry c .args .key) _ _ _ _ fits (sym (looked .lookup .ensures .0) ∙ c .line .given .1)
 
 plain-verdict-requires : tie.Need-plain-verdict-requires
 plain-verdict-requires c κs = search needs

@@ -24,7 +24,7 @@ enum-told c = search needs
 update-steps-requires : tie.Need-update-steps-requires
 update-steps-requires c κs =
     let told = update-accepted _ _ (sym (c .before .before .before .update-verdict .ensures) ∙ c .before .enum-told .given .1) in
-    order-fits _ (told .sizes) (told .order) .2
+    (order-fits _ (told .sizes) (told .order) .2, told .serial)
 
 same-length : tie.Need-same-length
 same-length c = search needs

@@ -11,15 +11,19 @@ put-u64-requires c κs = search needs
 put-u64-requires-2 : tie.Need-put-u64-requires-2
 put-u64-requires-2 c κs = search needs
 
+put-u64-requires-3 : tie.Need-put-u64-requires-3
+put-u64-requires-3 c κs = search needs
+
 same-length : tie.Need-same-length
 same-length c = search needs
 
 returns : tie.Need-returns
 unfolding putGauge
 returns c =
-    let ceiling = c .before .before in
+    let serial = c .before .before in
+    let ceiling = serial .before .before .before .before in
     let total = ceiling .before .before .before .before in
-    rw (ceiling .put-u642 .ensures, total .put-u64 .ensures)
+    rw (serial .put-u643 .ensures, ceiling .put-u642 .ensures, total .put-u64 .ensures)
 
 pub put-gauge-spec : {M : Type 1} → statement M
-put-gauge-spec = tie.close (tie.spec put-u64-requires put-u64-requires-2 same-length returns)
+put-gauge-spec = tie.close (tie.spec put-u64-requires put-u64-requires-2 put-u64-requires-3 same-length returns)

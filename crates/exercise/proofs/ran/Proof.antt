@@ -5,6 +5,9 @@ use borrow.Author.Needs.{needs}
 use Rattle.exercise.proofs.ran.Statement.{statement}
 use Rattle.exercise.proofs.ran.Tie as tie
 
+fresh-gauge-requires : tie.Need-fresh-gauge-requires
+fresh-gauge-requires c κs = search needs
+
 slice-aggregate-run : tie.Need-slice-aggregate-run
 slice-aggregate-run c = search needs
 
@@ -62,6 +65,7 @@ pub ran-spec : {M : Type 1} → statement M
 ran-spec =
     tie.close
     (tie.spec
+    fresh-gauge-requires
     slice-aggregate-run
     slice-aggregate-run-2
     run-requires

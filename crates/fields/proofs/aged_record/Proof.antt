@@ -7,15 +7,22 @@ use Rattle.rules.specs.Table.{agedRecord, halfDown, halfUp}
 use Rattle.fields.proofs.aged_record.Statement.{statement}
 use Rattle.fields.proofs.aged_record.Tie as tie
 
-add-t5 : tie.Need-add-t5
-add-t5 c = search needs
+add-with-slack : tie.Need-add-with-slack
+add-with-slack c = search needs
+
+with-heat-requires : tie.Need-with-heat-requires
+with-heat-requires c κs = search needs
+
+with-slack-requires : tie.Need-with-slack-requires
+with-slack-requires c κs = search needs
 
 returns : tie.Need-returns
 unfolding agedRecord halfDown halfUp
 returns c =
-    let slack = c .before .before .before .args .r .slack in
+    let slack = c .before .before .before .before .before .args .r .slack in
     let e : slack / 2 + slack % 2 ≡ (slack + 1) / 2 = omega arith in
-    rw e
+    rw (c .with-slack .ensures, c .before .with-heat .ensures, e)
 
 pub aged-record-spec : {M : Type 1} → statement M
-aged-record-spec = tie.close (tie.spec add-t5 returns)
+aged-record-spec =
+    tie.close (tie.spec add-with-slack with-heat-requires with-slack-requires returns)

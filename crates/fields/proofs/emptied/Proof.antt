@@ -11,15 +11,22 @@ is-lined-requires c κs = search needs
 line-of-requires : tie.Need-line-of-requires
 line-of-requires c κs = sym (c .before .is-lined .ensures) ∙ c .if1 .taken
 
-on-empty-line-requires : tie.Need-on-empty-line-requires
-unfolding emptyState lineOf
-on-empty-line-requires c κs = search needs
+mul-with-state : tie.Need-mul-with-state
+unfolding lineOf
+mul-with-state c = search needs
+
+add-with-state : tie.Need-add-with-state
+unfolding lineOf
+add-with-state c = search needs
+
+with-state-requires : tie.Need-with-state-requires
+with-state-requires c κs = search needs
 
 returns : tie.Need-returns
-unfolding emptied
+unfolding emptied emptyState
 returns c =
     let lined = c .before .before in
-    rw (← lined .before .is-lined .ensures, lined .if1 .taken, ← c .before .line-of .ensures) (c .on-empty-line .ensures)
+    rw (← lined .before .is-lined .ensures, lined .if1 .taken, ← c .before .line-of .ensures) (c .with-state .ensures)
 
 returns-2 : tie.Need-returns-2
 unfolding emptied
@@ -27,4 +34,12 @@ returns-2 c = rw (← c .before .is-lined .ensures, c .if1 .left)
 
 pub emptied-spec : {M : Type 1} → statement M
 emptied-spec =
-    tie.close (tie.spec is-lined-requires line-of-requires on-empty-line-requires returns returns-2)
+    tie.close
+    (tie.spec
+    is-lined-requires
+    line-of-requires
+    mul-with-state
+    add-with-state
+    with-state-requires
+    returns
+    returns-2)

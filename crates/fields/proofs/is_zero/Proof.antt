@@ -21,9 +21,27 @@ returns-3 c =
 returns-4 : tie.Need-returns-4
 unfolding isZero
 returns-4 c =
-    let slack = c .before in
+    let slack = c .before .before in
     let heat = slack .before .before in
-    rw (eq-eqb _ 0 (heat .before .before .if1 .left), eq-eqb _ 0 (heat .if2 .left), eq-eqb _ 0 (slack .if3 .left))
+    rw (
+      eq-eqb _ 0 (heat .before .before .if1 .left),
+      eq-eqb _ 0 (heat .if2 .left),
+      eq-eqb _ 0 (slack .if3 .left),
+      ne-eqb _ 0 (c .if4 .taken),
+    )
+
+returns-5 : tie.Need-returns-5
+unfolding isZero
+returns-5 c =
+    let state = c .before in
+    let slack = state .before .before in
+    let heat = slack .before .before in
+    rw (
+      eq-eqb _ 0 (heat .before .before .if1 .left),
+      eq-eqb _ 0 (heat .if2 .left),
+      eq-eqb _ 0 (slack .if3 .left),
+      eq-eqb _ 0 (state .if4 .left),
+    )
 
 pub is-zero-spec : {M : Type 1} → statement M
-is-zero-spec = tie.close (tie.spec returns returns-2 returns-3 returns-4)
+is-zero-spec = tie.close (tie.spec returns returns-2 returns-3 returns-4 returns-5)

@@ -15,9 +15,14 @@ add-with-state c = search needs
 with-state-requires : tie.Need-with-state-requires
 with-state-requires c κs = search needs
 
+with-ticket-requires : tie.Need-with-ticket-requires
+with-ticket-requires c κs = search needs
+
 returns : tie.Need-returns
 unfolding onEmptyLine emptyState
-returns c = c .with-state .ensures
+returns c = rw (c .with-ticket .ensures, c .before .with-state .ensures)
 
 pub on-empty-line-spec : {M : Type 1} → statement M
-on-empty-line-spec = tie.close (tie.spec mul-with-state add-with-state with-state-requires returns)
+on-empty-line-spec =
+    tie.close
+    (tie.spec mul-with-state add-with-state with-state-requires with-ticket-requires returns)

@@ -7,9 +7,12 @@ use Rattle.fields.proofs.unlined.Tie as tie
 with-state-requires : tie.Need-with-state-requires
 with-state-requires c κs = search needs
 
+with-ticket-requires : tie.Need-with-ticket-requires
+with-ticket-requires c κs = search needs
+
 returns : tie.Need-returns
 unfolding unlined
-returns c = c .with-state .ensures
+returns c = rw (c .with-ticket .ensures, c .before .with-state .ensures)
 
 pub unlined-spec : {M : Type 1} → statement M
-unlined-spec = tie.close (tie.spec with-state-requires returns)
+unlined-spec = tie.close (tie.spec with-state-requires with-ticket-requires returns)

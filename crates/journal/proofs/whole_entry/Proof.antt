@@ -1,7 +1,7 @@
 -- `journal::whole_entry` meets its contract: each kind's arm is the definition's, with the forms that the callees answer. Assumes
 -- nothing.
 use borrow.Author.Tests.{ne-eqb}
-use Rattle.rules.specs.Journal.{wholeEntry, kindAt, pictureZero, weightZero, keyZero, keyAt, picturePlace}
+use Rattle.rules.specs.Journal.{wholeEntry, kindAt, pictureZero, weightZero, keyZero, ticketZero, keyAt, picturePlace, ticketAt}
 use borrow.Author.Needs.{needs}
 use Rattle.journal.proofs.whole_entry.Statement.{statement}
 use Rattle.journal.proofs.whole_entry.Tie as tie
@@ -21,16 +21,23 @@ add-get-u64 c = search needs
 get-u64-requires : tie.Need-get-u64-requires
 get-u64-requires c κs = search needs
 
-add-picture : tie.Need-add-picture
-add-picture c = search needs
+add-get-u64-2 : tie.Need-add-get-u64-2
+add-get-u64-2 c = search needs
+
+get-u64-requires-2 : tie.Need-get-u64-requires-2
+get-u64-requires-2 c κs = search needs
+
+add-t14 : tie.Need-add-t14
+add-t14 c = search needs
 
 of-form-requires : tie.Need-of-form-requires
 of-form-requires c κs = search needs
 
 returns : tie.Need-returns
-unfolding wholeEntry kindAt pictureZero weightZero keyZero keyAt picturePlace
+unfolding wholeEntry kindAt pictureZero weightZero keyZero ticketZero keyAt picturePlace ticketAt
 returns c =
-    let key = c .before .before in
+    let ticket = c .before .before in
+    let key = ticket .before in
     let weight = key .before in
     rw (
       c .of-form .ensures,
@@ -38,6 +45,7 @@ returns c =
       weight .before .gaps-zero .ensures,
       weight .weight-at .ensures,
       key .get-u64 .ensures,
+      ticket .get-u642 .ensures,
     )
 
 add-zeros : tie.Need-add-zeros
@@ -50,10 +58,11 @@ of-form-requires-2 : tie.Need-of-form-requires-2
 of-form-requires-2 c κs = search needs
 
 returns-2 : tie.Need-returns-2
-unfolding wholeEntry kindAt pictureZero weightZero keyZero keyAt picturePlace
+unfolding wholeEntry kindAt pictureZero weightZero keyZero ticketZero keyAt picturePlace ticketAt
 returns-2 c =
     let blank = c .before .before in
-    let key = blank .before .before in
+    let ticket = blank .before .before in
+    let key = ticket .before in
     let weight = key .before in
     rw (
       c .of-form2 .ensures,
@@ -62,16 +71,18 @@ returns-2 c =
       weight .before .gaps-zero .ensures,
       weight .weight-at .ensures,
       key .get-u64 .ensures,
+      ticket .get-u642 .ensures,
     )
 
 of-form-requires-3 : tie.Need-of-form-requires-3
 of-form-requires-3 c κs = search needs
 
 returns-3 : tie.Need-returns-3
-unfolding wholeEntry kindAt pictureZero weightZero keyZero keyAt picturePlace
+unfolding wholeEntry kindAt pictureZero weightZero keyZero ticketZero keyAt picturePlace ticketAt
 returns-3 c =
     let blank = c .before .before .before in
-    let key = blank .before .before in
+    let ticket = blank .before .before in
+    let key = ticket .before in
     let weight = key .before in
     rw (
       c .of-form3 .ensures,
@@ -80,16 +91,18 @@ returns-3 c =
       weight .before .gaps-zero .ensures,
       weight .weight-at .ensures,
       key .get-u64 .ensures,
+      ticket .get-u642 .ensures,
     )
 
 of-form-requires-4 : tie.Need-of-form-requires-4
 of-form-requires-4 c κs = search needs
 
 returns-4 : tie.Need-returns-4
-unfolding wholeEntry kindAt pictureZero weightZero keyZero keyAt picturePlace
+unfolding wholeEntry kindAt pictureZero weightZero keyZero ticketZero keyAt picturePlace ticketAt
 returns-4 c =
     let blank = c .before .before .before in
-    let key = blank .before .before in
+    let ticket = blank .before .before in
+    let key = ticket .before in
     let weight = key .before in
     rw (
       c .of-form4 .ensures,
@@ -100,6 +113,7 @@ returns-4 c =
       weight .before .gaps-zero .ensures,
       weight .weight-at .ensures,
       key .get-u64 .ensures,
+      ticket .get-u642 .ensures,
     )
 
 pub whole-entry-spec : {M : Type 1} → statement M
@@ -111,7 +125,9 @@ whole-entry-spec =
     weight-at-requires
     add-get-u64
     get-u64-requires
-    add-picture
+    add-get-u64-2
+    get-u64-requires-2
+    add-t14
     of-form-requires
     returns
     add-zeros

@@ -1,6 +1,6 @@
 -- `lending::read` meets its contract, by `LentOn.antt`'s walk with two numbers, over `lent::read`.
 -- The first equation that `lent::read` ensures, of its answer and the gauge that it leaves, is the one that `read` ensures of the reply that the two
--- make; the one on the answer's number is let go. Assumes nothing.
+-- make; the one on what the answer says is let go. Assumes nothing.
 use contract.Monad.{fact-mono}
 use contract.Running.{givenOf, tables, tablesOf}
 use denote.Triple.Spec.{tripleOf}

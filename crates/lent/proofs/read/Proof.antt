@@ -7,9 +7,9 @@ use contract.Monad.{fact}
 use contract.Running.{givenOf, tables, tablesOf}
 use denote.Triple.Spec.{tripleOf}
 use denote.Triple.Table.{entered, cited}
-use Rattle.rules.specs.Answers.{numberOf}
+use Rattle.rules.specs.Answers.{numberOf, answerSaid}
 use Rattle.rules.specs.Calls.{lent, left, readOutcome}
-use Rattle.rules.specs.Numbers.{readNumber}
+use Rattle.rules.specs.Numbers.{readSaid}
 use Rattle.cache.proofs.read as core
 use Rattle.cache.proofs.read.Symbol as core-def
 use Rattle.cache.proofs.read.Met as core-thm
@@ -26,6 +26,6 @@ read-spec 𝓤 H 𝓜 𝓖 𝓡 =
     (tables 𝓤 H 𝓜 𝓡 code.env .C) (tables 𝓤 H 𝓜 𝓡 code.env .Λ) key.name code.function (code.unfolded 𝓤 H 𝓜 𝓡)
     (weighed-meets 𝓤 H (𝓖 .A) (givenOf 𝓤 H 𝓜 𝓖) core-def.name
     (λ κs a. core.clauses 𝓤 H (𝓖 .A) (𝓜 .mem) (𝓡 .run) κs a .ensures tt) (λ κs a. thin.clauses 𝓤 H (𝓖 .A) (𝓜 .mem) (𝓡 .run) κs a .ensures tt)
-    (λ κs a r zs. fst∗ 𝓤 (fact 𝓤 ((left r zs (a .1 .1 .0 .now) ≡ readOutcome (lent (a .0 .now) (a .1 .0 .now) (a .1 .1 .0 .now)) (a .1 .1 .1 .0) (a .1 .1 .1 .1 .0)) × (numberOf (r .answer) ≡ readNumber (lent (a .0 .now) (a .1 .0 .now) (a .1 .1 .0 .now)) (a .1 .1 .1 .0) (a .1 .1 .1 .1 .0)))) (fact 𝓤 (numberOf (r .answer) < 2 ^ 64)))
+    (λ κs a r zs. fst∗ 𝓤 (fact 𝓤 ((left r zs (a .1 .1 .0 .now) ≡ readOutcome (lent (a .0 .now) (a .1 .0 .now) (a .1 .1 .0 .now)) (a .1 .1 .1 .0) (a .1 .1 .1 .1 .0)) × (answerSaid (r .answer) ≡ readSaid (lent (a .0 .now) (a .1 .0 .now) (a .1 .1 .0 .now)) (a .1 .1 .1 .0) (a .1 .1 .1 .1 .0)))) (fact 𝓤 (numberOf (r .answer) < 2 ^ 64)))
     (tablesOf 𝓤 H 𝓜 (tables 𝓤 H 𝓜 𝓡 code.env))
     (cited 𝓤 H (tripleOf 𝓤 H (𝓖 .A) core.signature (core.spec 𝓤 H (𝓖 .A) (𝓜 .mem) (𝓡 .run))) 𝓜 𝓡 code.env core-def.name core-def.routine code.calls-cache·read (core-thm.met 𝓤 H 𝓜 𝓖 𝓡)))

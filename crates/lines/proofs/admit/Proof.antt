@@ -29,7 +29,7 @@ returns c = rw (← c .before .before .record-at .ensures, ← c .before .is-lin
 claimable-requires : tie.Need-claimable-requires
 unfolding places size lineTotal lineCount
 claimable-requires c κs =
-    let (_, fits, below) = c .before .before .before .before .before .before .before .pre in
+    let (_, fits, below, _) = c .before .before .before .before .before .before .before .pre in
     (search needs, record { state = λ j inside. let most = fits .state j inside in omega arith; heat = below .heat })
 
 give-line-requires : tie.Need-give-line-requires
@@ -87,8 +87,8 @@ hand-over-requires c κs =
     let told = c .before .before .before .before .before in
     let looked = told .before .before in
     let found = coldest-found _ _ _ _ (sym (looked .before .claimable .ensures .coldest-is) ∙ told .coldest .given .1) in
-    let (inside, fits, _) = looked .before .before .before .before .before .before .before .before .before .pre in
-    (found .inside, inside, lt-ltb _ _ (found .has .0), omega (arith, fits .state _ (found .inside), fits .lines))
+    let (inside, fits, _, serial) = looked .before .before .before .before .before .before .before .before .before .pre in
+    (found .inside, inside, lt-ltb _ _ (found .has .0), omega (arith, fits .state _ (found .inside), fits .lines), serial)
 
 same-length-4 : tie.Need-same-length-4
 same-length-4 c = search needs

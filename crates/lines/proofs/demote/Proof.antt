@@ -35,6 +35,9 @@ enum-known-hottest c = search needs
 enum-told : tie.Need-enum-told
 enum-told c = search needs
 
+renew-requires : tie.Need-renew-requires
+renew-requires c κs = search needs
+
 same-length-2 : tie.Need-same-length-2
 same-length-2 c = search needs
 
@@ -54,7 +57,9 @@ demotes c =
 
 returns-2 : tie.Need-returns-2
 unfolding demoteFor
-returns-2 c = rw (demotes (c .before .before), c .enum-told .given .1)
+returns-2 c =
+    let told = c .before .before .before .before in
+    rw (demotes (told .before .before), told .enum-told .given .1) (c .before .before .renew .ensures)
 
 hand-over-requires : tie.Need-hand-over-requires
 unfolding lineOf places size lineTotal
@@ -63,12 +68,16 @@ hand-over-requires c κs =
     let looked = told .before .before in
     let found = hottest-found _ _ _ _ (sym (looked .hottest-unlined .ensures) ∙ told .hottest .given .1) in
     let lined = looked .before .before in
-    let (inside, fits) = lined .before .before .before .before .before .before .pre in (
+    let (inside, fits, serial) = lined .before .before .before .before .before .before .pre in (
       inside,
       found .inside,
       rw (← lined .before .before .record-at .ensures) (passes (lined .before .is-lined .ensures) (lined .if1 .left)),
       omega (arith, fits .state _ inside, fits .lines),
+      serial,
     )
+
+renew-requires-2 : tie.Need-renew-requires-2
+renew-requires-2 c κs = search needs
 
 same-length-3 : tie.Need-same-length-3
 same-length-3 c = search needs
@@ -90,13 +99,13 @@ same-length-4 c = search needs
 returns-4 : tie.Need-returns-4
 unfolding demoteFor hotter places
 returns-4 c =
-    let told = c .before .before .before .before in
+    let told = c .before .before .before .before .before .before .before .before in
     rw (
       demotes (told .before .before),
       told .hottest .given .1,
       ← told .before .before .before .before .before .before .record-at .ensures,
-      le-ltb _ _ (c .if2 .left),
-    )
+      le-ltb _ _ (c .before .before .before .before .if2 .left),
+    ) (c .before .before .renew2 .ensures)
 
 pub demote-spec : {M : Type 1} → statement M
 demote-spec =
@@ -109,9 +118,11 @@ demote-spec =
     hottest-unlined-requires
     enum-known-hottest
     enum-told
+    renew-requires
     same-length-2
     returns-2
     hand-over-requires
+    renew-requires-2
     same-length-3
     returns-3
     same-length-4

@@ -24,7 +24,7 @@ unfolding recordCount
 give-line-requires c κs =
     let lined = c .before .before .before .before .before .before in
     let start = lined .before .before .before .before .before in
-    (search needs, rw (lined .line-of .ensures, lined .before .record-at .ensures) (start .pre .3))
+    (search needs, rw (lined .line-of .ensures, lined .before .record-at .ensures) (start .pre .3), start .pre .4)
 
 same-length : tie.Need-same-length
 same-length c = search needs

@@ -38,17 +38,32 @@ put-u64-requires-4 : tie.Need-put-u64-requires-4
 unfolding recordCount
 put-u64-requires-4 c κs = omega arith
 
+add-put-u64-4 : tie.Need-add-put-u64-4
+unfolding recordCount
+add-put-u64-4 c = omega arith
+
+put-u64-requires-5 : tie.Need-put-u64-requires-5
+unfolding recordCount
+put-u64-requires-5 c κs = omega arith
+
 same-length : tie.Need-same-length
 same-length c = search needs
 
 returns : tie.Need-returns
 unfolding putRecord
 returns c =
-    let state = c .before .before in
+    let ticket = c .before .before in
+    let state = ticket .before .before .before .before in
     let slack = state .before .before .before .before in
     let heat = slack .before .before .before .before in
     let key = heat .before .before .before .before in
-    rw (state .put-u644 .ensures, slack .put-u643 .ensures, heat .put-u642 .ensures, key .put-u64 .ensures)
+    rw (
+      ticket .put-u645 .ensures,
+      state .put-u644 .ensures,
+      slack .put-u643 .ensures,
+      heat .put-u642 .ensures,
+      key .put-u64 .ensures,
+    )
 
 pub put-record-spec : {M : Type 1} → statement M
 put-record-spec =
@@ -62,5 +77,7 @@ put-record-spec =
     put-u64-requires-3
     add-put-u64-3
     put-u64-requires-4
+    add-put-u64-4
+    put-u64-requires-5
     same-length
     returns)

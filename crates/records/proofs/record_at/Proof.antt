@@ -1,4 +1,4 @@
--- `records::record_at` meets its contract: a record inside the table has its four numbers inside, so each get is allowed, and
+-- `records::record_at` meets its contract: a record inside the table has its five numbers inside, so each get is allowed, and
 -- together they are the record. Assumes nothing.
 use Rattle.rules.specs.Bytes.{recordAt, recordCount}
 use native.Mathlib.Omega.{arith}
@@ -37,12 +37,27 @@ get-u64-requires-4 : tie.Need-get-u64-requires-4
 unfolding recordCount
 get-u64-requires-4 c κs = omega arith
 
+add-get-u64-4 : tie.Need-add-get-u64-4
+unfolding recordCount
+add-get-u64-4 c = omega arith
+
+get-u64-requires-5 : tie.Need-get-u64-requires-5
+unfolding recordCount
+get-u64-requires-5 c κs = omega arith
+
 returns : tie.Need-returns
 unfolding recordAt
 returns c =
-    let slack = c .before in
+    let state = c .before in
+    let slack = state .before in
     let heat = slack .before in
-    rw (heat .before .get-u64 .ensures, heat .get-u642 .ensures, slack .get-u643 .ensures, c .get-u644 .ensures)
+    rw (
+      heat .before .get-u64 .ensures,
+      heat .get-u642 .ensures,
+      slack .get-u643 .ensures,
+      state .get-u644 .ensures,
+      c .get-u645 .ensures,
+    )
 
 pub record-at-spec : {M : Type 1} → statement M
 record-at-spec =
@@ -56,4 +71,6 @@ record-at-spec =
     get-u64-requires-3
     add-get-u64-3
     get-u64-requires-4
+    add-get-u64-4
+    get-u64-requires-5
     returns)

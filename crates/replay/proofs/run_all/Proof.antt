@@ -87,11 +87,15 @@ same-length c = search needs
 same-length-2 : tie.Need-same-length-2 Inv-loop μ-loop
 same-length-2 c = search needs
 
+-- the function's start, from its end
+abbrev start : tie.Else1 Inv-loop μ-loop → tie.Start Inv-loop μ-loop
+start c = c .before .before .before .before .before .before .before .before .before .before .before .before .before .before .before .before .before .before .before .before .before
+
 same-length-3 : tie.Need-same-length-3 Inv-loop μ-loop
-same-length-3 c = search needs
+same-length-3 c = omega (arith, start c .pre .0)
 
 same-length-4 : tie.Need-same-length-4 Inv-loop μ-loop
-same-length-4 c = search needs
+same-length-4 c = omega (arith, start c .pre .1)
 
 -- the loop stops at a full piece only where too many are counted
 stopped : (got pieces : ℕ) → got ≤ pieceSize → pieces < mostPieces → (eqb got pieceSize && ltb pieces mostPieces) ≡ false → got < pieceSize

@@ -16,7 +16,7 @@ other-tag : (entry : Entry) → (tagOf the-type entry ≡ 0) ⊎ ((tagOf the-typ
 unfolding isEnd
 other-tag (Read key weight) h = refl
 other-tag (Update key weight) h = refl
-other-tag (Fill key place) h = refl
+other-tag (Fill key place ticket) h = refl
 other-tag Age h = refl
 other-tag (Refused n) h = refl
 other-tag Done (inl h) = absurd (omega arith)

@@ -13,7 +13,7 @@ abbrev start : tie.After-fill-arg2 → tie.Start
 start c = c .before .before .before .before .before .before .before .before
 
 inside : (c : tie.After-fill-arg2) → c .before .before .before .entry3 .given .0 .1 .0 + 64 ≤ length (start c .args .journal .now)
-inside c = start c .pre .inside _ _ (c .before .before .before .entry3 .given .1)
+inside c = start c .pre .inside _ _ _ (c .before .before .before .entry3 .given .1)
 
 enum-known-entry : tie.Need-enum-known-entry
 enum-known-entry c = search needs

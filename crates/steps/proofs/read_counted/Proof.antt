@@ -4,7 +4,7 @@ use mathlib.Core.Path.{sym, _∙_}
 use native.Mathlib.Omega.{arith}
 use borrow.Author.Needs.{needs}
 use Rattle.rules.specs.Bytes.{recordCount}
-use Rattle.rules.specs.Table.{heated, withHeat, places, size, withTable, write}
+use Rattle.rules.specs.Table.{heated, places, size, withTable, write}
 use Rattle.rules.specs.Steps.{place, readCounted}
 use Rattle.rules.proofs.Places.{IsRecord}
 use Rattle.rules.proofs.Finds.{key-found}
@@ -46,13 +46,13 @@ put-record-requires c κs =
     key-found _ _ _ _ _ (sym (told .before .before .key-record .ensures) ∙ told .found .given .1) .inside
 
 admission-requires : tie.Need-admission-requires
-unfolding recordCount heated withHeat places size write withTable
+unfolding recordCount heated places size write withTable
 admission-requires c κs =
     let warmed = c .before .before .before .before in
     let told = warmed .before .before .before in
     let found = key-found _ _ _ _ _ (sym (told .before .before .key-record .ensures) ∙ told .found .given .1) in
     let is : IsRecord (warmed .heated .result) = omega (arith, warmed .heated .ok) in
-    let (weight, heats, lines) = told .before .before .before .before .before .before .pre in (
+    let (weight, heats, lines, serial) = told .before .before .before .before .before .before .pre in (
       search needs,
       rw (c .before .before .before .put-record .ensures)
           (lines-write _ _ _ lines (found .inside) is
@@ -60,6 +60,7 @@ admission-requires c κs =
       rw (c .before .before .before .put-record .ensures)
           (heats-write _ _ _ heats (found .inside) is
           (rw (warmed .heated .ensures, found .is) (omega (arith, heats .heat _ (found .inside))))),
+      serial,
     )
 
 same-length-2 : tie.Need-same-length-2

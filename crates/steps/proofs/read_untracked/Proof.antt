@@ -6,7 +6,7 @@ use Rattle.rules.specs.Bytes.{recordCount}
 use Rattle.rules.specs.Table.{size}
 use Rattle.rules.specs.Steps.{place}
 use Rattle.rules.proofs.Finds.{free-found}
-use Rattle.steps.proofs.Rooms.{track-fits}
+use Rattle.steps.proofs.Rooms.{track-fits, serial-track}
 use Rattle.steps.proofs.read_untracked.Statement.{statement}
 use Rattle.steps.proofs.read_untracked.Tie as tie
 
@@ -23,8 +23,8 @@ read-evicting-requires : tie.Need-read-evicting-requires
 read-evicting-requires c κs =
     let told = c .before in
     let found = told .before .before .replaceable .ensures in
-    let (weight, heats, lines) = told .before .before .before .before .before .before .pre in
-    (weight, heats, lines, found .coldest-is (told .enum-told .given .1))
+    let (weight, heats, lines, serial) = told .before .before .before .before .before .before .pre in
+    (weight, heats, lines, serial, found .coldest-is (told .enum-told .given .1))
 
 same-length : tie.Need-same-length
 same-length c = search needs
@@ -39,7 +39,7 @@ track-requires : tie.Need-track-requires
 track-requires c κs =
     let told = c .before .before in
     let found = free-found _ _ _ _ (sym (told .before .before .replaceable .ensures .free-is) ∙ told .free .given .1) in
-    let (weight, heats, lines) = told .before .before .before .before .before .before .pre in
+    let (weight, heats, _, _) = told .before .before .before .before .before .before .pre in
     (found .inside, weight, heats .ceiling)
 
 admission-requires : tie.Need-admission-requires
@@ -48,10 +48,10 @@ admission-requires c κs =
     let told = c .before .before .before .before .before .before in
     let found = free-found _ _ _ _ (sym (told .before .before .replaceable .ensures .free-is) ∙ told .free .given .1) in
     let start = told .before .before .before .before .before .before in
-    let (weight, heats, lines) = start .pre in
+    let (weight, heats, lines, serial) = start .pre in
     let is = c .before .before .before .track .ensures in
     let fits = track-fits _ (start .args .key) _ _ lines heats (found .inside) (omega arith) weight in
-    (search needs, rw is (fits .0), rw is (fits .1))
+    (search needs, rw is (fits .0), rw is (fits .1), serial-track _ _ _ _ _ is serial)
 
 same-length-2 : tie.Need-same-length-2
 same-length-2 c = search needs

@@ -10,7 +10,7 @@ use lib.Dec.{ltb}
 use Rattle.rules.specs.declared.Record.{Record}
 use Rattle.rules.specs.Bytes.{recordCount}
 use Rattle.rules.specs.Pass.{if_then_else_}
-use Rattle.rules.specs.Table.{isLined, lineOf, emptyState, withHeat, withState, cooled, onEmptyLine, emptied, places, size, withTable, write}
+use Rattle.rules.specs.Table.{isLined, lineOf, emptyState, withState, cooled, emptied, places, size, withTable, write}
 use Rattle.rules.specs.Answers.{numberOf}
 use Rattle.rules.specs.Steps.{change, updateSteps}
 use Rattle.rules.proofs.Places.{IsRecord}
@@ -47,26 +47,27 @@ put-record-requires c κs =
     key-found _ _ _ _ _ (sym (told .before .before .key-record .ensures) ∙ told .tracked .given .1) .inside
 
 emptied-most : (r : Record) (n : ℕ) → r .state ≤ 1 + 2 * n → emptied r .state ≤ 1 + 2 * n
-unfolding emptied isLined onEmptyLine withState emptyState lineOf
+unfolding emptied isLined emptyState lineOf
 emptied-most r n most = go (ltb 1 (r .state)) refl
   where
-    go : (b : Bool) → ltb 1 (r .state) ≡ b → (if b then onEmptyLine (lineOf r) r else r) .state ≤ 1 + 2 * n
+    go : (b : Bool) → ltb 1 (r .state) ≡ b → (if b then withState (emptyState (lineOf r)) r else r) .state ≤ 1 + 2 * n
     go true e = omega (arith, ltb-true 1 (r .state) e)
     go false e = most
 
 demote-requires : tie.Need-demote-requires
-unfolding recordCount cooled withHeat places size write withTable
+unfolding recordCount cooled places size write withTable
 demote-requires c κs =
     let freed = c .before .before .before .before in
     let told = freed .before .before .before .before in
     let found = key-found _ _ _ _ _ (sym (told .before .before .key-record .ensures) ∙ told .tracked .given .1) in
     let is : IsRecord (freed .emptied .result) = omega (arith, freed .emptied .ok) in
-    let fits = told .before .before .before .before .before .before .pre in
+    let (fits, serial) = told .before .before .before .before .before .before .pre in
     let most = rw (← found .is) at (fits .state _ (found .inside)) in (
       search needs,
       rw (c .before .before .before .put-record .ensures)
           (lines-write _ _ _ fits (found .inside) is
           (rw (freed .emptied .ensures, freed .before .cooled .ensures) (emptied-most _ _ most))),
+      serial,
     )
 
 same-length-2 : tie.Need-same-length-2

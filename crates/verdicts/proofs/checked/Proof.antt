@@ -10,7 +10,7 @@ use borrow.Author.Needs.{needs}
 use borrow.Author.Tests.{not-true, not-false}
 use Rattle.rules.specs.Bytes.{lineSize, lineCount}
 use Rattle.rules.specs.Table.{places, size, lineTotal}
-use Rattle.rules.specs.Calls.{mostRecords, sizesGood, orderGood, verdict, sizesTest, orderTest}
+use Rattle.rules.specs.Calls.{mostRecords, sizesGood, orderGood, verdict, sizesTest, orderTest, serialTest}
 use Rattle.rules.proofs.Memories.{sizes-say}
 use Rattle.rules.proofs.Branches.{fails, passes}
 use Rattle.verdicts.proofs.checked.Statement.{statement}
@@ -53,17 +53,34 @@ returns-3 c =
     )
 
 returns-4 : tie.Need-returns-4
-unfolding verdict sizesTest orderTest orderGood places size lineTotal lineCount
+unfolding verdict sizesTest orderTest orderGood serialTest places size lineTotal lineCount
 returns-4 c =
-    let own = c .before .before in
+    let order = c .before in
+    let own = order .before .before in
     let sizes = own .before in
+    let args = sizes .before .before .before .before .args in
     rw (
       passes (sizes .before .sizes-good .ensures) (sizes .if1 .left),
-      not-false (sizes .before .before .before .before .args .good) (own .if2 .left),
-      passes (c .before .in-order .ensures) (c .if3 .left),
+      not-false (args .good) (own .if2 .left),
+      passes (order .before .in-order .ensures) (order .if3 .left),
+      not-true (args .serial-good) (c .if4 .taken),
+    )
+
+returns-5 : tie.Need-returns-5
+unfolding verdict sizesTest orderTest orderGood serialTest places size lineTotal lineCount
+returns-5 c =
+    let order = c .before in
+    let own = order .before .before in
+    let sizes = own .before in
+    let args = sizes .before .before .before .before .args in
+    rw (
+      passes (sizes .before .sizes-good .ensures) (sizes .if1 .left),
+      not-false (args .good) (own .if2 .left),
+      passes (order .before .in-order .ensures) (order .if3 .left),
+      not-false (args .serial-good) (c .if4 .left),
     )
 
 pub checked-spec : {M : Type 1} → statement M
 checked-spec =
     tie.close
-    (tie.spec sizes-good-requires returns returns-2 in-order-requires returns-3 returns-4)
+    (tie.spec sizes-good-requires returns returns-2 in-order-requires returns-3 returns-4 returns-5)

@@ -1,6 +1,6 @@
--- `verdicts::plain_verdict` meets its contract: a test that always passes changes no verdict. Assumes nothing.
+-- `verdicts::plain_verdict` meets its contract: tests that always pass change no verdict. Assumes nothing.
 use borrow.Author.Needs.{needs}
-use Rattle.rules.specs.Calls.{verdict, plainVerdict}
+use Rattle.rules.specs.Calls.{verdict, serialTest, plainVerdict}
 use Rattle.verdicts.proofs.plain_verdict.Statement.{statement}
 use Rattle.verdicts.proofs.plain_verdict.Tie as tie
 
@@ -8,7 +8,7 @@ checked-requires : tie.Need-checked-requires
 checked-requires c κs = search needs
 
 returns : tie.Need-returns
-unfolding plainVerdict verdict
+unfolding plainVerdict verdict serialTest
 returns c = c .checked .ensures
 
 pub plain-verdict-spec : {M : Type 1} → statement M

@@ -1,8 +1,8 @@
--- `verdicts::update_verdict` meets its contract: by definition, with the test of the weight. Assumes nothing.
+-- `verdicts::update_verdict` meets its contract: by definition, with the tests of the weight and of the serial. Assumes nothing.
 use mathlib.Core.Logic.{⊎-elim}
 use borrow.Author.Tests.{le-leb, lt-leb}
 use borrow.Author.Needs.{needs}
-use Rattle.rules.specs.Calls.{updateVerdict, updateWeightGood}
+use Rattle.rules.specs.Calls.{updateVerdict, updateWeightGood, serialGood}
 use Rattle.verdicts.proofs.update_verdict.Statement.{statement}
 use Rattle.verdicts.proofs.update_verdict.Tie as tie
 
@@ -10,7 +10,7 @@ checked-requires : tie.Need-checked-requires
 checked-requires c κs = search needs
 
 returns : tie.Need-returns
-unfolding updateVerdict updateWeightGood
+unfolding updateVerdict updateWeightGood serialGood
 returns c =
     ⊎-elim
     (λ a. rw (le-leb 1 _ (a .0 .taken)) (rw (a .1) at (c .checked .ensures)))
