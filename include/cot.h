@@ -92,7 +92,7 @@ extern "C" {
 #define COT_STORED 103  /* fill: the picture is in the key's line */
 #define COT_PASSED 104  /* read: the key has no line */
 #define COT_HIT 2000    /* read: COT_HIT + n, the key's picture is in line n */
-#define COT_WANTED 4000 /* read: COT_WANTED + n, the key has line n, which is to be filled; gives a
+#define COT_WANTED 4000 /* read: COT_WANTED + n, the key has line n, which is to be filled; tells a
                            ticket for it */
 
 /* Starts a cache: every byte of the table and of the gauge becomes zero, whatever they held. The
