@@ -1,5 +1,7 @@
 // The calls of the cache, the gauge by value. Each refuses bad input by number and leaves everything as it was; otherwise it does
 // what the definitions of its outcome say, byte for byte.
+#![tactic(auto)]
+
 ghost use Rattle.std.specs.Prelude.{◌≡◌, ◌++◌, ◌≤◌, ◌<◌, ◌*◌, ◌^◌, length, drop, replicate};
 ghost use Rattle.rules.specs.Bytes.{record_at, record_count, line_size};
 ghost use Rattle.rules.specs.Pass.{sum_of};

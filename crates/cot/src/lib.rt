@@ -1,4 +1,6 @@
 // The functions that a C program links: the calls of the cache with the gauge as lent bytes, each returning one number.
+#![tactic(auto)]
+
 ghost use Rattle.std.specs.Prelude.{◌≡◌, ◌<◌, ◌^◌, length};
 ghost use Rattle.rules.specs.Bytes.{number_size, gauge_size, gauge_at, put_gauge};
 ghost use Rattle.rules.specs.Answers.{number_of, completion_number};

@@ -1,6 +1,8 @@
 // Runs what a Rattle caller can call and nothing else here runs, and prints what each call gives: fresh on memory that is not zero,
 // show, the levelled sum, the calls that are lent the gauge by `&mut`, looks among them, a late fill, a serial that is spent, the
 // journal's reader, and a run whose rows have no room.
+#![tactic(auto)]
+
 use fields::fresh_gauge;
 use journal::read_at;
 use lending::first_two;

@@ -1,4 +1,6 @@
 // One record, and the gauge: what their numbers say, and what becomes of them.
+#![tactic(auto)]
+
 ghost use Rattle.std.specs.Prelude.{◌≡◌, true, ◌≤◌, ◌<◌, ◌^◌};
 ghost use Rattle.rules.specs.Table.{is_unlined, is_lined, line_of, is_filled, is_zero, most_total, with_heat, with_slack, with_state, with_ticket, with_total, with_ceiling, with_serial, fresh_gauge, heated, cooled, aged_record, new_record, unlined, empty_state, on_empty_line, emptied, filled};
 ghost use Rattle.rules.specs.Calls.{most_records, most_weight};
@@ -10,6 +12,7 @@ use rules::{Answer, Gauge, Record};
 // ---- what a record's state says
 
 // Whether it is tracked without a line.
+#[tactic(auto, unfolding(rules::specs::Table::is_unlined))]
 pub fn is_unlined(r: Record) -> bool
     ensures { result ≡ is_unlined r }
 {
@@ -17,6 +20,7 @@ pub fn is_unlined(r: Record) -> bool
 }
 
 // Whether it is on a line.
+#[tactic(auto, unfolding(rules::specs::Table::is_lined))]
 pub fn is_lined(r: Record) -> bool
     ensures { result ≡ is_lined r }
 {
@@ -24,6 +28,7 @@ pub fn is_lined(r: Record) -> bool
 }
 
 // Whether it is on a line that is filled.
+#[tactic(auto, unfolding(rules::specs::Table::is_filled))]
 pub fn is_filled(r: Record) -> bool
     ensures { result ≡ is_filled r }
 {
@@ -31,6 +36,7 @@ pub fn is_filled(r: Record) -> bool
 }
 
 // The line that it is on.
+#[tactic(auto, unfolding(rules::specs::Table::is_lined, rules::specs::Table::line_of))]
 pub fn line_of(r: Record) -> usize
     requires { is_lined r ≡ true }
     ensures { result ≡ line_of r }
@@ -39,6 +45,7 @@ pub fn line_of(r: Record) -> usize
 }
 
 // Whether it is all zero, as a free one has to be.
+#[tactic(auto, unfolding(rules::specs::Table::is_zero))]
 pub fn is_zero(r: Record) -> bool
     ensures { result ≡ is_zero r }
 {
@@ -138,6 +145,7 @@ pub fn with_serial(serial: u64, g: Gauge) -> Gauge
 }
 
 // The gauge of a fresh table.
+#[tactic(auto, unfolding(rules::specs::Table::fresh_gauge))]
 pub fn fresh_gauge() -> Gauge
     ensures { result ≡ fresh_gauge }
 {
@@ -151,6 +159,7 @@ pub fn fresh_gauge() -> Gauge
 // ---- what becomes of a record
 
 // After a read.
+#[tactic(auto, unfolding(rules::specs::Table::heated))]
 pub fn heated(weight: u64, r: Record) -> Record
     requires { (weight ≤ most_weight) × (r.heat ≤ most_total) }
     ensures { result ≡ heated weight r }
@@ -159,6 +168,7 @@ pub fn heated(weight: u64, r: Record) -> Record
 }
 
 // After an update.
+#[tactic(auto, unfolding(rules::specs::Table::cooled))]
 pub fn cooled(weight: u64, r: Record) -> Record
     ensures { result ≡ cooled weight r }
 {
@@ -167,6 +177,7 @@ pub fn cooled(weight: u64, r: Record) -> Record
 }
 
 // After an aging.
+#[tactic(auto, unfolding(rules::specs::Table::aged_record, rules::specs::Table::half_down, rules::specs::Table::half_up))]
 pub fn aged_record(r: Record) -> Record
     ensures { result ≡ aged_record r }
 {
@@ -174,6 +185,7 @@ pub fn aged_record(r: Record) -> Record
 }
 
 // Of a key that is tracked anew.
+#[tactic(auto, unfolding(rules::specs::Table::new_record))]
 pub fn new_record(key: u64, ceiling: u64, weight: u64) -> Record
     requires { (weight ≤ most_weight) × (ceiling ≤ most_total) }
     ensures { result ≡ new_record key ceiling weight }
@@ -188,6 +200,7 @@ pub fn new_record(key: u64, ceiling: u64, weight: u64) -> Record
 }
 
 // Off its line.
+#[tactic(auto, unfolding(rules::specs::Table::unlined))]
 pub fn unlined(r: Record) -> Record
     ensures { result ≡ unlined r }
 {
@@ -195,6 +208,7 @@ pub fn unlined(r: Record) -> Record
 }
 
 // On a line that it has just got, with the ticket that it got with it.
+#[tactic(auto, unfolding(rules::specs::Table::empty_state, rules::specs::Table::on_empty_line))]
 pub fn on_empty_line(line: usize, ticket: u64, r: Record) -> Record
     requires { empty_state line < 2 ^ 64 }
     ensures { result ≡ on_empty_line line ticket r }
@@ -203,6 +217,7 @@ pub fn on_empty_line(line: usize, ticket: u64, r: Record) -> Record
 }
 
 // With its line, if it is on one, empty.
+#[tactic(auto, unfolding(rules::specs::Table::line_of, rules::specs::Table::emptied, rules::specs::Table::empty_state))]
 pub fn emptied(r: Record) -> Record
     ensures { result ≡ emptied r }
 {
@@ -214,6 +229,7 @@ pub fn emptied(r: Record) -> Record
 }
 
 // With its line filled.
+#[tactic(auto, unfolding(rules::specs::Table::filled, rules::specs::Table::filled_state))]
 pub fn filled(r: Record) -> Record
     requires { (is_lined r ≡ true) × (line_of r < most_records) }
     ensures { result ≡ filled r }
@@ -224,6 +240,7 @@ pub fn filled(r: Record) -> Record
 // ---- what a call makes of it
 
 // Step 6: what a read answers.
+#[tactic(auto, unfolding(rules::specs::Table::is_filled, rules::specs::Steps::read_answer, rules::specs::Answers::number_of, rules::specs::Table::line_of))]
 pub fn read_answer(r: Record) -> Answer
     ensures value { result ≡ read_answer r }
     ensures result_bound { number_of result < 2 ^ 64 }
@@ -238,6 +255,7 @@ pub fn read_answer(r: Record) -> Answer
 }
 
 // What it counts in the levelled sum.
+#[tactic(auto, unfolding(rules::specs::Steps::level, rules::specs::Table::is_free))]
 pub fn level(ceiling: u64, r: Record) -> u64
     ensures { result ≡ level ceiling r }
 {

@@ -1,4 +1,6 @@
 // The journal: a decoder on a plain slice and a position, and a reader that holds the lent slice and its position.
+#![tactic(auto)]
+
 ghost use Rattle.std.specs.Prelude.{◌≡◌, ◌+◌, ◌≤◌, ◌<◌, length};
 ghost use Rattle.rules.specs.Answers.{entry_said};
 ghost use Rattle.rules.specs.Journal.{entry_size, weight_at, zeros, gaps_zero, of_form, whole_entry, decoded, entry_at};

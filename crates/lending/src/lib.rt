@@ -1,5 +1,7 @@
 // What a Rattle caller does who lends a gauge by `&mut` or holds a reader: each function makes the struct in a local, lends it and
 // gives back what the calls left. Callers with plain values need no proof by hand.
+#![tactic(auto)]
+
 ghost use Rattle.std.specs.Prelude.{◌≡◌};
 ghost use Rattle.rules.specs.Calls.{lent, left, read_outcome, update_outcome, age_outcome};
 ghost use Rattle.rules.specs.Journal.{decoded, entry_at};
@@ -35,7 +37,7 @@ pub fn age(table: &mut [u8], gauge: Gauge, lines: &[u8]) -> Reply
 }
 
 // The first two records of a journal, and the position after them.
-#[derive(Drop)]
+#[derive(Clone, Copy)]
 pub struct Pair {
     pub first: Entry,
     pub second: Entry,

@@ -1,5 +1,7 @@
 // The calls of a Rattle caller, who lends the gauge: each is updated where it lies. Thin functions over the cache's calls, which take
 // the gauge by value.
+#![tactic(auto)]
+
 ghost use Rattle.std.specs.Prelude.{◌≡◌};
 ghost use Rattle.rules.specs.Answers.{number_of, answer_said};
 ghost use Rattle.rules.specs.Steps.{outcome};

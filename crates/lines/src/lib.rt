@@ -1,5 +1,7 @@
 // Which records are on lines: a record takes a line that is free or a colder one's, and a cooled one is demoted for a hotter. Whoever
 // takes a line, or keeps it through an update, gets a new ticket.
+#![tactic(auto)]
+
 ghost use Rattle.std.specs.Prelude.{◌≡◌, true, ◌<◌};
 ghost use Rattle.rules.specs.Bytes.{record_at, record_count};
 ghost use Rattle.rules.specs.Table.{is_lined, line_of};

@@ -1,4 +1,6 @@
 // Numbers and records in lent bytes. Only proved callers reach these functions, so each may ask that its place lies inside.
+#![tactic(auto)]
+
 ghost use Rattle.std.specs.Prelude.{◌≡◌, ◌+◌, ◌<◌, ◌≤◌, length};
 ghost use Rattle.rules.specs.Bytes.{get64, put64, record_at, put_record, record_count};
 
@@ -26,6 +28,7 @@ fn wide(b: u8) -> u64
 }
 
 // The 64-bit number at a place, least significant byte first.
+#[tactic(auto, unfolding(rules::specs::Bytes::get64))]
 pub fn get_u64(bytes: &[u8], at: usize) -> u64
     requires { at + 8 ≤ length bytes.now }
     ensures { result ≡ get64 bytes.now at }
@@ -41,6 +44,7 @@ pub fn get_u64(bytes: &[u8], at: usize) -> u64
 }
 
 // Puts a 64-bit number at a place.
+#[tactic(auto, unfolding(rules::specs::Bytes::put64))]
 pub fn put_u64(bytes: &mut [u8], at: usize, n: u64)
     requires { at + 8 ≤ length bytes.old }
     ensures { bytes.new ≡ put64 bytes.old at n }
@@ -56,6 +60,7 @@ pub fn put_u64(bytes: &mut [u8], at: usize, n: u64)
 }
 
 // The record at place i of a table.
+#[tactic(auto, unfolding(rules::specs::Bytes::record_count, rules::specs::Bytes::record_at))]
 pub fn record_at(table: &[u8], i: usize) -> Record
     requires { i < record_count table.now }
     ensures { result ≡ record_at table.now i }
@@ -71,6 +76,7 @@ pub fn record_at(table: &[u8], i: usize) -> Record
 }
 
 // The record at place i becomes r.
+#[tactic(auto, unfolding(rules::specs::Bytes::record_count, rules::specs::Bytes::put_record))]
 pub fn put_record(table: &mut [u8], i: usize, r: Record)
     requires { i < record_count table.old }
     ensures { table.new ≡ put_record table.old i r }

@@ -1,6 +1,8 @@
 // Runs a journal of any length from standard input on a fresh cache of three records and one line, and prints a row for each of its
 // records. It is read in pieces of whole records; the first piece that is not full is the last, and so is one whose rows cannot be
 // written.
+#![tactic(auto)]
+
 ghost use Rattle.std.specs.Prelude.{◌≡◌, ◌+◌, ◌<◌, ◌^◌, length};
 ghost use Rattle.rules.specs.Table.{fresh_gauge};
 ghost use Rattle.rules.specs.Calls.{lent, fresh_outcome};
@@ -26,7 +28,7 @@ const PIECE_SIZE: usize = ENTRY_SIZE * PIECE_RECORDS;
 const ROWS_SIZE: usize = ROW_SIZE * PIECE_RECORDS;
 
 // What a piece leaves: how far its run came, how many bytes were read, and whether its rows were written.
-#[derive(Drop)]
+#[derive(Clone, Copy)]
 struct Ran {
     progress: Progress,
     got: usize,

@@ -1,4 +1,6 @@
 // The rows that a run prints: number, word, total and ceiling, in decimal.
+#![tactic(auto)]
+
 ghost use Rattle.std.specs.Prelude.{◌∷◌, ◌+◌, ◌≤◌, length};
 ghost use Rattle.rules.specs.Journal.{digits, decimal, word_of, printed};
 ghost use Rattle.rows.specs.Written.{row_size, Puts};

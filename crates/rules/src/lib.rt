@@ -1,5 +1,6 @@
 // The declared types of the pattern cache and the numbers of document 01 that code uses. What they mean, and what every call does with
 // them, is in specs/.
+#![tactic(auto)]
 
 // L: the most that the total may be.
 pub const MOST_TOTAL: u64 = 4294967295;
@@ -32,7 +33,7 @@ pub const STALE_TICKET: u64 = 9;
 pub const SERIAL_SPENT: u64 = 10;
 
 // One of the table's records: a class that is tracked, or a free place.
-#[derive(Drop)]
+#[derive(Clone, Copy)]
 pub struct Record {
     // The class.
     pub key: u64,
@@ -47,7 +48,7 @@ pub struct Record {
 }
 
 // The three numbers that go with a table.
-#[derive(Drop)]
+#[derive(Clone, Copy)]
 pub struct Gauge {
     // All weight read so far, halved by each aging.
     pub total: u64,
@@ -58,14 +59,14 @@ pub struct Gauge {
 }
 
 // What a search of the table finds: the place of a record, with the record itself.
-#[derive(Drop)]
+#[derive(Clone, Copy)]
 pub enum Found {
     Nowhere,
     At(usize, Record),
 }
 
 // A key, looked up.
-#[derive(Drop)]
+#[derive(Clone, Copy)]
 pub enum Lookup {
     // No record.
     Untracked,
@@ -81,7 +82,7 @@ pub enum Lookup {
 }
 
 // The answer of a read, update, fill or aging.
-#[derive(Drop)]
+#[derive(Clone, Copy)]
 pub enum Answer {
     Aged,
     Changed,
@@ -95,42 +96,42 @@ pub enum Answer {
 }
 
 // A read, update or aging's answer, with the gauge after it.
-#[derive(Drop)]
+#[derive(Clone, Copy)]
 pub struct Reply {
     pub answer: Answer,
     pub gauge: Gauge,
 }
 
 // The answer of a call that has no named answer.
-#[derive(Drop)]
+#[derive(Clone, Copy)]
 pub enum Completion {
     Done,
     Refused(u64),
 }
 
 // Fresh's answer, with the gauge after it.
-#[derive(Drop)]
+#[derive(Clone, Copy)]
 pub struct Started {
     pub answer: Completion,
     pub gauge: Gauge,
 }
 
 // Whether a call is refused before its steps, and with which number.
-#[derive(Drop)]
+#[derive(Clone, Copy)]
 pub enum Verdict {
     Accepted,
     Refused(u64),
 }
 
 // The answer of the levelled sum.
-#[derive(Drop)]
+#[derive(Clone, Copy)]
 pub enum Levels {
     Sum(u64),
     Refused(u64),
 }
 
 // One journal record, decoded. A fill's picture is given by its place in the journal.
-#[derive(Drop)]
+#[derive(Clone, Copy)]
 pub enum Entry {
     Read {
         key: u64,
@@ -151,7 +152,7 @@ pub enum Entry {
 }
 
 // What reading the journal at a position gives: the entry, and the position after it.
-#[derive(Drop)]
+#[derive(Clone, Copy)]
 pub struct Decoded {
     pub entry: Entry,
     pub next: usize,

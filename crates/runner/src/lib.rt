@@ -1,4 +1,6 @@
 // Runs a journal on a cache: what each record does, and the row that it prints. A program over it only reads and writes.
+#![tactic(auto)]
+
 ghost use Rattle.std.specs.Prelude.{◌≡◌, ◌+◌, ◌≤◌, ◌<◌, ◌^◌, length};
 ghost use Rattle.rules.specs.Journal.{performed, is_end, going_on};
 ghost use Rattle.rules.specs.Calls.{lent, left};
@@ -52,7 +54,7 @@ fn perform(table: &mut [u8], gauge: Gauge, lines: &mut [u8], journal: &[u8], ent
 }
 
 // How far a run has come: the gauge, the places in the journal and in the output, and how many records have been numbered.
-#[derive(Drop)]
+#[derive(Clone, Copy)]
 pub struct Progress {
     pub gauge: Gauge,
     pub at: usize,
@@ -98,7 +100,7 @@ fn has_room(most: usize, p: Progress) -> bool
 }
 
 // How far a run came, and whether that is the whole journal. Where it is not, the next row found no room.
-#[derive(Drop)]
+#[derive(Clone, Copy)]
 pub struct Ended {
     pub progress: Progress,
     pub whole: bool,

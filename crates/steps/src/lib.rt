@@ -1,4 +1,6 @@
 // What an accepted aging, read or update does.
+#![tactic(auto)]
+
 ghost use Rattle.std.specs.Prelude.{◌≡◌, ◌≤◌, ◌<◌, ◌^◌};
 ghost use Rattle.rules.specs.Bytes.{record_at, record_count};
 ghost use Rattle.rules.specs.Table.{most_total, aged_record, key_record, free_record, victim, change_all};

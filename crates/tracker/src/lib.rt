@@ -1,4 +1,6 @@
 // What a pass over the table finds.
+#![tactic(auto)]
+
 ghost use Rattle.std.specs.Prelude.{◌≡◌, ◌+◌, ◌≤◌, ◌<◌, length};
 ghost use Rattle.rules.specs.Bytes.{record_at, record_count};
 ghost use Rattle.rules.specs.Pass.{best};
@@ -69,7 +71,7 @@ pub fn lookup(table: &[u8], key: u64) -> Lookup
 // ---- the record that an untracked key gets
 
 // The first free record, and the coldest without a line where none is free: the one to evict.
-#[derive(Drop)]
+#[derive(Clone, Copy)]
 pub struct Replacements {
     pub free: Found,
     pub coldest: Found,
@@ -187,7 +189,7 @@ pub fn hottest_unlined(table: &[u8]) -> Found
 // ---- the line that a record gets
 
 // The lowest line that no record is on, or the number of lines; and the coldest record on a line.
-#[derive(Drop)]
+#[derive(Clone, Copy)]
 pub struct Claim {
     pub line: usize,
     pub coldest: Found,

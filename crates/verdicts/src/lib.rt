@@ -1,4 +1,6 @@
 // Whether a call is refused, and with which number: the tests of document 01, in its order, as document 02 has them.
+#![tactic(auto)]
+
 ghost use Rattle.std.specs.Prelude.{◌≡◌, [], ◌∷◌, ◌≤◌};
 ghost use Rattle.rules.specs.Bytes.{record_at, record_count};
 ghost use Rattle.rules.specs.Table.{record_in_order, in_order};
