@@ -38,6 +38,7 @@ fn clear(table: &mut [u8])
 }
 
 // Starts a table: every record free, the gauge zero. The lines keep their bytes.
+#[tactic(auto, unfolding(rules::specs::Calls::fresh_outcome, rules::specs::Calls::unless, rules::specs::Calls::verdict, rules::specs::Calls::sizes_test, rules::specs::Table::fresh_memory))]
 pub fn fresh(table: &mut [u8], gauge: Gauge, lines: &[u8]) -> Started
     ensures lines_after { started result table.new lines.now ≡ fresh_outcome (lent table.old gauge lines.now) }
     ensures answer_value { completion_said result.answer ≡ fresh_said (lent table.old gauge lines.now) }
@@ -58,6 +59,7 @@ pub fn fresh(table: &mut [u8], gauge: Gauge, lines: &[u8]) -> Started
 // ---- Read, update and age
 
 // Counts weight pieces of a class, and answers where its picture is. A weight of 0 is a look: it changes nothing.
+#[tactic(auto, unfolding(rules::specs::Calls::read_outcome, rules::specs::Calls::unless, rules::specs::Answers::number_of))]
 pub fn read(table: &mut [u8], gauge: Gauge, lines: &[u8], key: u64, weight: u64) -> Reply
     ensures lines_after { (left result table.new lines.now ≡ read_outcome (lent table.old gauge lines.now) key weight)
         × (answer_said result.answer ≡ read_said (lent table.old gauge lines.now) key weight) }
@@ -74,6 +76,7 @@ pub fn read(table: &mut [u8], gauge: Gauge, lines: &[u8], key: u64, weight: u64)
 }
 
 // Cools a class whose picture has changed, and empties its line.
+#[tactic(auto, unfolding(rules::specs::Calls::update_outcome, rules::specs::Calls::unless, rules::specs::Answers::number_of))]
 pub fn update(table: &mut [u8], gauge: Gauge, lines: &[u8], key: u64, weight: u64) -> Reply
     ensures lines_after { (left result table.new lines.now ≡ update_outcome (lent table.old gauge lines.now) key weight)
         × (number_of result.answer ≡ update_number (lent table.old gauge lines.now) key weight) }
@@ -90,6 +93,7 @@ pub fn update(table: &mut [u8], gauge: Gauge, lines: &[u8], key: u64, weight: u6
 }
 
 // Halves every heat, total and ceiling downward and every slack upward.
+#[tactic(auto, unfolding(rules::specs::Calls::age_outcome, rules::specs::Calls::unless, rules::specs::Answers::number_of, rules::specs::Steps::age_steps))]
 pub fn age(table: &mut [u8], gauge: Gauge, lines: &[u8]) -> Reply
     ensures lines_after { (left result table.new lines.now ≡ age_outcome (lent table.old gauge lines.now))
         × (number_of result.answer ≡ age_number (lent table.old gauge lines.now)) }
@@ -126,6 +130,7 @@ fn copy_picture(part: &mut [u8], picture: &[u8])
     }
 }
 
+#[tactic(auto, unfolding(rules::specs::Bytes::put_line, rules::specs::Table::places, rules::specs::Table::size, rules::specs::Steps::fill_steps, rules::specs::Steps::store, rules::specs::Answers::number_of, rules::specs::Steps::store_in, rules::specs::Table::with_lines, rules::specs::Table::write, rules::specs::Table::with_table))]
 fn fill_steps(
     table: &mut [u8],
     gauge: Gauge,
@@ -161,6 +166,7 @@ fn fill_steps(
 }
 
 // Stores the picture of a class into its line, if it brings the ticket that the class was last given.
+#[tactic(auto, unfolding(rules::specs::Calls::fill_outcome, rules::specs::Calls::unless, rules::specs::Answers::number_of))]
 pub fn fill(
     table: &mut [u8],
     gauge: Gauge,
@@ -215,6 +221,7 @@ pub fn show<'a>(
 // ---- Levelled sum
 
 // The sum of the first n records' levels: of the first half, and of the rest as a part that begins at the middle record.
+#[tactic(auto, unfolding(rules::specs::Bytes::record_count, rules::specs::Pass::sum_of, rules::specs::Steps::level, rules::specs::Pass::pass))]
 fn sum_levels(part: &[u8], ceiling: u64, n: usize) -> u64
     requires { (n ≤ record_count part.now) × (n ≤ most_records) × LevelsFit part.now ceiling n }
     ensures { (result ≡ sum_of (level ceiling) (record_at part.now) n) × (result ≤ n * most_total) }
@@ -232,6 +239,7 @@ fn sum_levels(part: &[u8], ceiling: u64, n: usize) -> u64
 }
 
 // The sum, over all records, of the larger of heat and ceiling.
+#[tactic(auto, unfolding(rules::specs::Bytes::record_count, rules::specs::Table::places, rules::specs::Table::size, rules::specs::Calls::levelled_outcome, rules::specs::Calls::unless, rules::specs::Steps::levelled_sum))]
 pub fn levelled_sum(table: &[u8], gauge: Gauge, lines: &[u8]) -> Levels
     ensures value { result ≡ levelled_outcome (lent table.now gauge lines.now) }
     ensures result_value { levels_said result ≡ levelled_said (lent table.now gauge lines.now) }

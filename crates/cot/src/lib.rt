@@ -21,6 +21,7 @@ const NUMBER_SIZE: usize = 8;
 // What a host is told for done.
 const DONE: u64 = 0;
 
+#[tactic(auto, unfolding(rules::specs::Bytes::gauge_at))]
 fn gauge_at(bytes: &[u8]) -> Gauge
     requires { length bytes.now ≡ gauge_size }
     ensures { result ≡ gauge_at bytes.now }
@@ -32,6 +33,7 @@ fn gauge_at(bytes: &[u8]) -> Gauge
     }
 }
 
+#[tactic(auto, unfolding(rules::specs::Bytes::put_gauge))]
 fn put_gauge(bytes: &mut [u8], g: Gauge)
     requires { length bytes.old ≡ gauge_size }
     ensures { bytes.new ≡ put_gauge bytes.old g }
@@ -42,6 +44,7 @@ fn put_gauge(bytes: &mut [u8], g: Gauge)
 }
 
 // The number of an answer.
+#[tactic(auto, unfolding(rules::specs::Answers::number_of))]
 fn number_of(a: Answer) -> u64
     requires { number_of a < 2 ^ 64 }
     ensures { result ≡ number_of a }
@@ -59,6 +62,7 @@ fn number_of(a: Answer) -> u64
 }
 
 // Puts the ticket of a wanted into lent bytes.
+#[tactic(auto, unfolding(rules::specs::Calls::put_ticket))]
 fn put_ticket(bytes: &mut [u8], a: Answer)
     requires { length bytes.old ≡ number_size }
     ensures { bytes.new ≡ put_ticket bytes.old a }
@@ -69,6 +73,7 @@ fn put_ticket(bytes: &mut [u8], a: Answer)
 }
 
 // The number of a completion.
+#[tactic(auto, unfolding(rules::specs::Answers::completion_number))]
 fn completion_number(c: Completion) -> u64
     ensures { result ≡ completion_number c }
 {
@@ -95,6 +100,7 @@ pub extern "C" fn cot_fresh(table: &mut [u8], gauge: &mut [u8], lines: &[u8]) ->
 // Counts weight pieces of a class, and answers where its picture is. A weight of 0 is a look: it changes nothing. The 8 lent bytes get
 // the ticket of a wanted.
 #[unsafe(no_mangle)]
+#[tactic(auto, unfolding(rules::specs::Answers::number_of, rules::specs::Calls::put_ticket))]
 pub extern "C" fn cot_read(
     table: &mut [u8],
     gauge: &mut [u8],
@@ -172,6 +178,7 @@ pub extern "C" fn cot_age(table: &mut [u8], gauge: &mut [u8], lines: &[u8]) -> u
 
 // Puts the sum, over all records, of the larger of heat and ceiling into 8 lent bytes.
 #[unsafe(no_mangle)]
+#[tactic(auto, unfolding(rules::specs::Calls::put_levels))]
 pub extern "C" fn cot_levelled_sum(table: &[u8], gauge: &[u8], lines: &[u8], sum: &mut [u8]) -> u64
     ensures { outcome result sum.new ≡ exported_sum (host_lent table.now gauge.now lines.now) sum.old }
 {

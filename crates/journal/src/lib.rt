@@ -21,6 +21,7 @@ const TICKET_AT: usize = 80;
 // ---- the forms
 
 // Whether n bytes from a position are all 0.
+#[tactic(auto, unfolding(rules::specs::Journal::zeros))]
 fn zeros(bytes: &[u8], at: usize, n: usize) -> bool
     requires { at + n ≤ length bytes.now }
     ensures { result ≡ zeros bytes.now at n }
@@ -34,6 +35,7 @@ fn zeros(bytes: &[u8], at: usize, n: usize) -> bool
     good
 }
 
+#[tactic(auto, unfolding(rules::specs::Journal::gaps_zero))]
 fn gaps_zero(bytes: &[u8], at: usize) -> bool
     requires { at + entry_size ≤ length bytes.now }
     ensures { result ≡ gaps_zero bytes.now at }
@@ -47,6 +49,7 @@ fn wide(b: u8) -> u64
     b as u64
 }
 
+#[tactic(auto, unfolding(rules::specs::Journal::weight_at))]
 fn weight_at(bytes: &[u8], at: usize) -> u64
     requires { at + entry_size ≤ length bytes.now }
     ensures { result ≡ weight_at bytes.now at }
@@ -55,6 +58,7 @@ fn weight_at(bytes: &[u8], at: usize) -> u64
 }
 
 // An entry, if its record is of the form that its kind asks for.
+#[tactic(auto, unfolding(rules::specs::Journal::of_form))]
 fn of_form(good: bool, entry: Entry) -> Entry
     ensures { result ≡ of_form good entry }
 {
@@ -65,6 +69,7 @@ fn of_form(good: bool, entry: Entry) -> Entry
 }
 
 // A whole record that begins at a position.
+#[tactic(auto, unfolding(rules::specs::Journal::whole_entry, rules::specs::Journal::kind_at, rules::specs::Journal::picture_zero, rules::specs::Journal::weight_zero, rules::specs::Journal::key_zero, rules::specs::Journal::ticket_zero, rules::specs::Journal::key_at, rules::specs::Journal::picture_place, rules::specs::Journal::ticket_at))]
 fn whole_entry(bytes: &[u8], at: usize) -> Entry
     requires { at + entry_size ≤ length bytes.now }
     ensures { result ≡ whole_entry bytes.now at }
@@ -96,6 +101,7 @@ fn whole_entry(bytes: &[u8], at: usize) -> Entry
 }
 
 // The record at a position and the position after it. One of unknown form is passed over; a short end and an end are stayed at.
+#[tactic(auto, unfolding(rules::specs::Journal::entry_at, rules::specs::Journal::decoded))]
 pub fn decode(bytes: &[u8], at: usize) -> Decoded
     ensures { (result ≡ entry_at bytes.now at) × (entry_said result.entry ≡ said_at bytes.now at) }
 {
@@ -144,6 +150,7 @@ pub fn next<'a>(reader: &mut Reader<'a>) -> Entry
 }
 
 // One record through a reader, for callers with a plain slice.
+#[tactic(auto, unfolding(rules::specs::Journal::decoded))]
 pub fn read_at(bytes: &[u8], at: usize) -> Decoded
     ensures { (result ≡ entry_at bytes.now at) × (entry_said result.entry ≡ said_at bytes.now at) }
 {

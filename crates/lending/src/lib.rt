@@ -45,6 +45,7 @@ pub struct Pair {
 }
 
 // One record after another, by one reader.
+#[tactic(auto, unfolding(rules::specs::Journal::decoded))]
 pub fn first_two(bytes: &[u8]) -> Pair
     ensures { (result.first ≡ (entry_at bytes.now 0).entry) × (decoded result.second result.at ≡ entry_at bytes.now (entry_at bytes.now 0).next) }
 {

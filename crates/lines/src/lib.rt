@@ -15,6 +15,7 @@ use rules::{Found, Gauge};
 use tracker::{claimable, hottest_unlined};
 
 // The record at place i keeps its line, and gets a new ticket.
+#[tactic(auto, unfolding(rules::specs::Steps::renew, rules::specs::Steps::ticketed, rules::specs::Steps::next_ticket, rules::specs::Table::write, rules::specs::Table::with_table, rules::specs::Table::with_gauge, rules::specs::Table::places))]
 fn renew(table: &mut [u8], gauge: Gauge, lines: &[u8], i: usize) -> Gauge
     requires { (i < record_count table.old) × (gauge.serial < serial_limit) }
     ensures { lent table.new result lines.now ≡ renew (lent table.old gauge lines.now) i }
@@ -26,6 +27,7 @@ fn renew(table: &mut [u8], gauge: Gauge, lines: &[u8], i: usize) -> Gauge
 }
 
 // The record at place i takes a line, empty, with a new ticket.
+#[tactic(auto, unfolding(rules::specs::Table::empty_state, rules::specs::Steps::give_line, rules::specs::Steps::ticketed, rules::specs::Steps::next_ticket, rules::specs::Table::write, rules::specs::Table::with_table, rules::specs::Table::with_gauge, rules::specs::Table::places))]
 fn give_line(table: &mut [u8], gauge: Gauge, lines: &[u8], i: usize, line: usize) -> Gauge
     requires { (i < record_count table.old) × (line < most_records) × (gauge.serial < serial_limit) }
     ensures { lent table.new result lines.now ≡ give_line (lent table.old gauge lines.now) i line }
@@ -37,6 +39,7 @@ fn give_line(table: &mut [u8], gauge: Gauge, lines: &[u8], i: usize, line: usize
 }
 
 // A record gives its line to another.
+#[tactic(auto, unfolding(rules::specs::Bytes::record_count, rules::specs::Steps::hand_over, rules::specs::Table::write, rules::specs::Table::with_table, rules::specs::Table::places))]
 fn hand_over(table: &mut [u8], gauge: Gauge, lines: &[u8], from: usize, to: usize) -> Gauge
     requires { (from < record_count table.old) × (to < record_count table.old) × (is_lined (record_at table.old from) ≡ true) × (line_of (record_at table.old from) < most_records) × (gauge.serial < serial_limit) }
     ensures { lent table.new result lines.now ≡ hand_over (lent table.old gauge lines.now) from to }
@@ -48,6 +51,7 @@ fn hand_over(table: &mut [u8], gauge: Gauge, lines: &[u8], from: usize, to: usiz
 }
 
 // Step 5: the record at place i gets a line if one is unused, or if it is hotter than the coldest on a line.
+#[tactic(auto, unfolding(rules::specs::Steps::admit, rules::specs::Table::places, rules::specs::Table::size, rules::specs::Table::line_total, rules::specs::Bytes::line_count, rules::specs::Steps::promote, rules::specs::Steps::replace_coldest, rules::specs::Table::is_lined, rules::specs::Table::line_of, rules::specs::Table::hotter))]
 pub fn admit(table: &mut [u8], gauge: Gauge, lines: &[u8], i: usize) -> Gauge
     requires { (i < record_count table.old) × LinesFit (lent table.old gauge lines.now) × HeatsBelow (lent table.old gauge lines.now) × (gauge.serial < serial_limit) }
     ensures { lent table.new result lines.now ≡ admit (lent table.old gauge lines.now) i }
@@ -74,6 +78,7 @@ pub fn admit(table: &mut [u8], gauge: Gauge, lines: &[u8], i: usize) -> Gauge
 }
 
 // The record at place i keeps its line unless the hottest record without one is hotter.
+#[tactic(auto, unfolding(rules::specs::Steps::demote, rules::specs::Table::places, rules::specs::Table::size, rules::specs::Steps::demote_for, rules::specs::Table::line_of, rules::specs::Table::line_total, rules::specs::Table::hotter))]
 pub fn demote(table: &mut [u8], gauge: Gauge, lines: &[u8], i: usize) -> Gauge
     requires { (i < record_count table.old) × LinesFit (lent table.old gauge lines.now) × (gauge.serial < serial_limit) }
     ensures { lent table.new result lines.now ≡ demote (lent table.old gauge lines.now) i }

@@ -12,6 +12,7 @@ use records::LINE_SIZE;
 use rows::{ROW_SIZE, put_row};
 use rules::{Answer, Entry, Gauge, Reply};
 
+#[tactic(auto, unfolding(rules::specs::Journal::is_end))]
 fn is_end(entry: Entry) -> bool
     ensures { result ≡ is_end entry }
 {
@@ -19,6 +20,7 @@ fn is_end(entry: Entry) -> bool
 }
 
 // Does what an entry says, on the cache. An end of the journal is nothing to do.
+#[tactic(auto, unfolding(rules::specs::Journal::performed, rules::specs::Journal::picture_at))]
 fn perform(table: &mut [u8], gauge: Gauge, lines: &mut [u8], journal: &[u8], entry: Entry) -> Reply
     requires { PictureInside journal.now entry }
     ensures { left result table.new lines.new ≡ performed journal.now entry (lent table.old gauge lines.old) }
@@ -63,6 +65,7 @@ pub struct Progress {
 }
 
 // One record: it is done, and its row is written.
+#[tactic(auto, unfolding(rules::specs::Journal::row_of))]
 fn step(table: &mut [u8], lines: &mut [u8], journal: &[u8], out: &mut [u8], p: Progress) -> Progress
     requires { (p.end + row_size ≤ length out.old) × (p.numbered + 1 < 2 ^ 64) }
     ensures { Steps journal.now p (lent table.old p.gauge lines.old) out.old result (lent table.new result.gauge lines.new) out.new }
@@ -92,6 +95,7 @@ fn step(table: &mut [u8], lines: &mut [u8], journal: &[u8], out: &mut [u8], p: P
 const MOST_NUMBER: u64 = 18446744073709551615;
 
 // Whether one more row has room in an output of so many bytes, and a number.
+#[tactic(auto, unfolding(crate::specs::Progress::room_for))]
 fn has_room(most: usize, p: Progress) -> bool
     requires { p.end ≤ most }
     ensures { result ≡ room_for most p.end p.numbered }
@@ -108,6 +112,7 @@ pub struct Ended {
 
 // Runs a piece of a journal that holds whole records, and perhaps a short end, numbering on from the records before it. It stops
 // before a record whose row has no room: ROW_SIZE bytes, and a number below 2^64. The records that are left begin at `progress.at`.
+#[tactic(auto, unfolding(crate::specs::Progress::room_for, crate::specs::Progress::records_run, rules::specs::Journal::run_for, rules::specs::Journal::printed_all, rules::specs::Journal::entry_count))]
 pub fn run(
     table: &mut [u8],
     gauge: Gauge,

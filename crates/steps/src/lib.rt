@@ -21,6 +21,7 @@ use tracker::{key_record, replaceable};
 
 // ---- Age
 
+#[tactic(auto, unfolding(rules::specs::Table::change_all, rules::specs::Bytes::record_count))]
 fn age_records(table: &mut [u8])
     ensures { table.new ≡ change_all aged_record table.old (record_count table.old) }
 {
@@ -33,6 +34,7 @@ fn age_records(table: &mut [u8])
     }
 }
 
+#[tactic(auto, unfolding(rules::specs::Steps::aged, rules::specs::Steps::aged_gauge, rules::specs::Table::half_down, rules::specs::Table::with_gauge, rules::specs::Table::with_table, rules::specs::Table::size))]
 pub fn age_all(table: &mut [u8], gauge: Gauge, lines: &[u8]) -> Gauge
     ensures { lent table.new result lines.now ≡ aged (lent table.old gauge lines.now) }
 {
@@ -42,6 +44,7 @@ pub fn age_all(table: &mut [u8], gauge: Gauge, lines: &[u8]) -> Gauge
 
 // ---- Read
 
+#[tactic(auto, unfolding(rules::specs::Steps::decay_for))]
 fn decay_for(table: &mut [u8], gauge: Gauge, lines: &[u8], weight: u64) -> Gauge
     requires { (gauge.total ≤ most_total) × (weight ≤ most_weight) }
     ensures { lent table.new result lines.now ≡ decay_for weight (lent table.old gauge lines.now) }
@@ -54,6 +57,7 @@ fn decay_for(table: &mut [u8], gauge: Gauge, lines: &[u8], weight: u64) -> Gauge
 }
 
 // Steps 5 and 6.
+#[tactic(auto, unfolding(rules::specs::Bytes::record_count, rules::specs::Steps::admission, rules::specs::Table::places))]
 fn admission(table: &mut [u8], gauge: Gauge, lines: &[u8], i: usize) -> Reply
     requires { (i < record_count table.old) × LinesFit (lent table.old gauge lines.now) × HeatsBelow (lent table.old gauge lines.now) × (gauge.serial < serial_limit) }
     ensures lines_after { left result table.new lines.now ≡ admission i (lent table.old gauge lines.now) }
@@ -66,6 +70,7 @@ fn admission(table: &mut [u8], gauge: Gauge, lines: &[u8], i: usize) -> Reply
     }
 }
 
+#[tactic(auto, unfolding(rules::specs::Steps::track, rules::specs::Table::write, rules::specs::Table::with_table))]
 fn track(table: &mut [u8], gauge: Gauge, lines: &[u8], key: u64, weight: u64, i: usize) -> Gauge
     requires { (i < record_count table.old) × (weight ≤ most_weight) × (gauge.ceiling ≤ most_total) }
     ensures { lent table.new result lines.now ≡ track (lent table.old gauge lines.now) key weight i }
@@ -75,6 +80,7 @@ fn track(table: &mut [u8], gauge: Gauge, lines: &[u8], key: u64, weight: u64, i:
 }
 
 // Step 4.
+#[tactic(auto, unfolding(rules::specs::Steps::place, rules::specs::Answers::number_of, rules::specs::Table::places, rules::specs::Table::size, rules::specs::Bytes::record_count, rules::specs::Table::with_gauge, rules::specs::Steps::evict, rules::specs::Steps::raised))]
 fn read_evicting(
     table: &mut [u8],
     gauge: Gauge,
@@ -104,6 +110,7 @@ fn read_evicting(
 }
 
 // Steps 3 and 4.
+#[tactic(auto, unfolding(rules::specs::Steps::place, rules::specs::Bytes::record_count, rules::specs::Table::size))]
 fn read_untracked(table: &mut [u8], gauge: Gauge, lines: &[u8], key: u64, weight: u64) -> Reply
     requires { (weight ≤ most_weight) × HeatsFit (lent table.old gauge lines.now) × LinesFit (lent table.old gauge lines.now) × (gauge.serial < serial_limit) }
     ensures lines_after { left result table.new lines.now ≡ place (lent table.old gauge lines.now) key weight Nowhere (free_record (record_at table.old) (record_count table.old)) (victim (record_at table.old) (record_count table.old)) }
@@ -120,6 +127,7 @@ fn read_untracked(table: &mut [u8], gauge: Gauge, lines: &[u8], key: u64, weight
 }
 
 // Steps 2 to 6.
+#[tactic(auto, unfolding(rules::specs::Steps::read_counted, rules::specs::Steps::place, rules::specs::Table::places, rules::specs::Table::size, rules::specs::Bytes::record_count, rules::specs::Table::heated, rules::specs::Table::write, rules::specs::Table::with_table))]
 fn read_counted(table: &mut [u8], gauge: Gauge, lines: &[u8], key: u64, weight: u64) -> Reply
     requires { (weight ≤ most_weight) × HeatsFit (lent table.old gauge lines.now) × LinesFit (lent table.old gauge lines.now) × (gauge.serial < serial_limit) }
     ensures lines_after { left result table.new lines.now ≡ read_counted (lent table.old gauge lines.now) key weight }
@@ -134,6 +142,7 @@ fn read_counted(table: &mut [u8], gauge: Gauge, lines: &[u8], key: u64, weight: 
 }
 
 // A look: how the table stands.
+#[tactic(auto, unfolding(rules::specs::Steps::peek_answer, rules::specs::Answers::number_of))]
 fn peek(table: &[u8], key: u64) -> Answer
     ensures value { result ≡ peek_answer (key_record key (record_at table.now) (record_count table.now)) }
     ensures result_bound { number_of result < 2 ^ 64 }
@@ -145,6 +154,7 @@ fn peek(table: &[u8], key: u64) -> Answer
     read_answer(r)
 }
 
+#[tactic(auto, unfolding(rules::specs::Steps::read_steps, rules::specs::Steps::peek_steps, rules::specs::Table::places, rules::specs::Table::size, rules::specs::Steps::decay_for, rules::specs::Steps::aged, rules::specs::Steps::aged_gauge, rules::specs::Table::with_gauge, rules::specs::Table::half_down, rules::specs::Steps::warm_steps, rules::specs::Steps::grown))]
 pub fn read_steps(table: &mut [u8], gauge: Gauge, lines: &[u8], key: u64, weight: u64) -> Reply
     requires { (gauge.total ≤ most_total) × (weight ≤ most_weight) × HeatsFit (lent table.old gauge lines.now) × LinesFit (lent table.old gauge lines.now) × (0 < weight → gauge.serial < serial_limit) }
     ensures lines_after { left result table.new lines.now ≡ read_steps (lent table.old gauge lines.now) key weight }
@@ -161,6 +171,7 @@ pub fn read_steps(table: &mut [u8], gauge: Gauge, lines: &[u8], key: u64, weight
 
 // ---- Update
 
+#[tactic(auto, unfolding(rules::specs::Steps::update_steps, rules::specs::Steps::change, rules::specs::Table::places, rules::specs::Table::size, rules::specs::Answers::number_of, rules::specs::Table::emptied, rules::specs::Table::is_lined, rules::specs::Table::empty_state, rules::specs::Table::line_of, rules::specs::Bytes::record_count, rules::specs::Table::cooled, rules::specs::Table::write, rules::specs::Table::with_table))]
 pub fn update_steps(table: &mut [u8], gauge: Gauge, lines: &[u8], key: u64, weight: u64) -> Reply
     requires { LinesFit (lent table.old gauge lines.now) × (gauge.serial < serial_limit) }
     ensures lines_after { left result table.new lines.now ≡ update_steps (lent table.old gauge lines.now) key weight }

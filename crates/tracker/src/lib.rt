@@ -24,6 +24,7 @@ const LARGEST: u64 = 18446744073709551615;
 
 // ---- searches that stop at the first record that serves
 
+#[tactic(auto, unfolding(rules::specs::Table::has_key, rules::specs::Table::is_tracked))]
 fn has_key(r: Record, key: u64) -> bool
     ensures { result ≡ has_key key r }
 {
@@ -31,6 +32,7 @@ fn has_key(r: Record, key: u64) -> bool
 }
 
 // The record of a key.
+#[tactic(auto, unfolding(rules::specs::Table::key_record, rules::specs::Pass::first_of, rules::specs::Pass::pass, rules::specs::Bytes::record_count))]
 pub fn key_record(table: &[u8], key: u64) -> Found
     ensures { result ≡ key_record key (record_at table.now) (record_count table.now) }
 {
@@ -47,6 +49,7 @@ pub fn key_record(table: &[u8], key: u64) -> Found
 }
 
 // A key, looked up.
+#[tactic(auto, unfolding(rules::specs::Table::lookup, rules::specs::Table::looked_up))]
 pub fn lookup(table: &[u8], key: u64) -> Lookup
     ensures value { result ≡ lookup (record_at table.now) (record_count table.now) key }
     ensures result_value { lookup_said result ≡ key_said (key_record key (record_at table.now) (record_count table.now)) }
@@ -78,6 +81,7 @@ pub struct Replacements {
 }
 
 // The first place whose record has no line, or the number of records.
+#[tactic(auto, unfolding(rules::specs::Table::free_record, rules::specs::Pass::first_of, rules::specs::Table::victim, rules::specs::Pass::best_of, rules::specs::Pass::pass, rules::specs::Bytes::record_count))]
 fn first_unlined(table: &[u8]) -> usize
     ensures { FirstUnlined (record_at table.now) (record_count table.now) result }
 {
@@ -94,6 +98,7 @@ fn first_unlined(table: &[u8]) -> usize
 }
 
 // Whether a record is free, or without a line and colder than the one that is held.
+#[tactic(auto, unfolding(crate::specs::Replacing::serves, rules::specs::Table::is_free, rules::specs::Table::is_unlined))]
 fn serves(r: Record, least: u64) -> bool
     ensures { result ≡ serves least r }
 {
@@ -102,6 +107,7 @@ fn serves(r: Record, least: u64) -> bool
 }
 
 // The same search from a place on, before which no record is free and the coldest without a line is known.
+#[tactic(auto, unfolding(rules::specs::Bytes::record_count, rules::specs::Table::free_record, rules::specs::Table::is_free))]
 fn replaceable_from(table: &[u8], from: usize, held: usize) -> Replacements
     requires { (from ≤ record_count table.now) × (held < record_count table.now) × ColdestYet (record_at table.now) from held }
     ensures { IsReplaceable (record_at table.now) (record_count table.now) result.free result.coldest }
@@ -131,6 +137,7 @@ fn replaceable_from(table: &[u8], from: usize, held: usize) -> Replacements
 }
 
 // What an untracked key can replace, in one pass that stops at a free record.
+#[tactic(auto, unfolding(rules::specs::Bytes::record_count, rules::specs::Table::free_record, rules::specs::Table::is_free))]
 pub fn replaceable(table: &[u8]) -> Replacements
     ensures { IsReplaceable (record_at table.now) (record_count table.now) result.free result.coldest }
 {
@@ -153,6 +160,7 @@ pub fn replaceable(table: &[u8]) -> Replacements
 
 // ---- searches that see every record
 
+#[tactic(auto, unfolding(rules::specs::Table::hotter))]
 fn hotter_unlined(held: Found, i: usize, r: Record) -> Found
     ensures { result ≡ best is_unlined hotter held i r }
 {
@@ -173,6 +181,7 @@ fn hotter_unlined(held: Found, i: usize, r: Record) -> Found
 }
 
 // The hottest record without a line.
+#[tactic(auto, unfolding(rules::specs::Table::hottest_unlined, rules::specs::Pass::best_of, rules::specs::Pass::pass, rules::specs::Bytes::record_count))]
 pub fn hottest_unlined(table: &[u8]) -> Found
     ensures { result ≡ hottest_unlined (record_at table.now) (record_count table.now) }
 {
@@ -196,6 +205,7 @@ pub struct Claim {
 }
 
 // The heat of a record on a line; where it is on none, the largest number.
+#[tactic(auto, unfolding(crate::specs::Claiming::lined_heat))]
 fn lined_heat(r: Record) -> u64
     ensures { result ≡ lined_heat r }
 {
@@ -204,6 +214,7 @@ fn lined_heat(r: Record) -> u64
 
 // Marks the line of every record, line n at n + 1, and finds the coldest record on a line, or the number of records. A record that is
 // on none marks place 0.
+#[tactic(auto, unfolding(rules::specs::Bytes::record_count))]
 fn mark_lines(table: &[u8], used: &mut [u8]) -> usize
     requires { Unmarked used.old × ClaimFits (record_at table.now) (record_count table.now) (length used.old) }
     ensures { Marks (record_at table.now) (record_count table.now) used.new × ColdestIs (record_at table.now) (record_count table.now) result }
@@ -226,6 +237,7 @@ fn mark_lines(table: &[u8], used: &mut [u8]) -> usize
 }
 
 // The lowest of the first lines that has no mark, or their number.
+#[tactic(auto, unfolding(crate::specs::Marks::lowest_unmarked, crate::specs::Marks::is_marked))]
 fn lowest_unmarked(used: &[u8], lines: usize) -> usize
     requires { lines < length used.now }
     ensures { result ≡ lowest_unmarked used.now lines }
@@ -241,6 +253,7 @@ fn lowest_unmarked(used: &[u8], lines: usize) -> usize
 }
 
 // What a record without a line can claim, over marks that are all clear.
+#[tactic(auto, unfolding(rules::specs::Bytes::record_count))]
 fn claim_marking(table: &[u8], lines: usize, used: &mut [u8]) -> Claim
     requires { Unmarked used.old × (lines < length used.old) × ClaimFits (record_at table.now) (record_count table.now) (length used.old) }
     ensures { IsClaim (record_at table.now) (record_count table.now) lines result.line result.coldest }

@@ -14,6 +14,7 @@ use rules::{
 };
 
 // Whether the table has 1 to 1,024 whole records and the lines are whole and fewer.
+#[tactic(auto, unfolding(rules::specs::Calls::sizes_good, rules::specs::Bytes::record_count, rules::specs::Bytes::line_count))]
 pub fn sizes_good(table: &[u8], lines: &[u8]) -> bool
     ensures { result ≡ sizes_good table.now lines.now }
 {
@@ -36,6 +37,7 @@ pub fn sizes_good(table: &[u8], lines: &[u8]) -> bool
 
 // ---- order
 
+#[tactic(auto, unfolding(rules::specs::Table::record_in_order, rules::specs::Table::is_tracked, rules::specs::Table::is_lined))]
 fn record_in_order(r: Record, total: u64, lines: usize) -> bool
     requires { lines ≤ most_records }
     ensures { result ≡ record_in_order total lines r }
@@ -56,6 +58,7 @@ fn record_in_order(r: Record, total: u64, lines: usize) -> bool
 }
 
 // Whether the table is in order, in one pass.
+#[tactic(auto, unfolding(rules::specs::Table::in_order, rules::specs::Pass::all_of, rules::specs::Pass::count_of, rules::specs::Pass::sum_of, rules::specs::Pass::pass, rules::specs::Bytes::record_count))]
 pub fn in_order(table: &[u8], gauge: Gauge, lines: usize) -> bool
     requires { lines ≤ most_records }
     ensures { result ≡ in_order (record_at table.now) (record_count table.now) lines gauge }
@@ -87,6 +90,7 @@ pub fn in_order(table: &[u8], gauge: Gauge, lines: usize) -> bool
 
 // The tests of sizes and of order, with a test of the call's own between them: whether it was good, and its number. Last, whether the
 // serial was good for it.
+#[tactic(auto, unfolding(rules::specs::Bytes::line_count, rules::specs::Calls::verdict, rules::specs::Calls::sizes_test, rules::specs::Calls::order_test, rules::specs::Calls::order_good, rules::specs::Table::places, rules::specs::Table::size, rules::specs::Table::line_total, rules::specs::Calls::serial_test))]
 fn checked(
     table: &[u8],
     gauge: Gauge,
@@ -113,12 +117,14 @@ fn checked(
 }
 
 // For a call without a test of its own.
+#[tactic(auto, unfolding(rules::specs::Calls::plain_verdict, rules::specs::Calls::verdict, rules::specs::Calls::serial_test))]
 pub fn plain_verdict(table: &[u8], gauge: Gauge, lines: &[u8]) -> Verdict
     ensures { result ≡ plain_verdict (lent table.now gauge lines.now) }
 {
     checked(table, gauge, lines, true, 0, true)
 }
 
+#[tactic(auto, unfolding(rules::specs::Calls::read_verdict, rules::specs::Calls::read_weight_good, rules::specs::Calls::serial_good))]
 pub fn read_verdict(table: &[u8], gauge: Gauge, lines: &[u8], weight: u64) -> Verdict
     ensures { result ≡ read_verdict (lent table.now gauge lines.now) weight }
 {
@@ -132,6 +138,7 @@ pub fn read_verdict(table: &[u8], gauge: Gauge, lines: &[u8], weight: u64) -> Ve
     )
 }
 
+#[tactic(auto, unfolding(rules::specs::Calls::update_verdict, rules::specs::Calls::update_weight_good, rules::specs::Calls::serial_good))]
 pub fn update_verdict(table: &[u8], gauge: Gauge, lines: &[u8], weight: u64) -> Verdict
     ensures { result ≡ update_verdict (lent table.now gauge lines.now) weight }
 {
@@ -145,6 +152,7 @@ pub fn update_verdict(table: &[u8], gauge: Gauge, lines: &[u8], weight: u64) -> 
     )
 }
 
+#[tactic(auto, unfolding(rules::specs::Calls::fill_verdict, rules::specs::Calls::picture_good, rules::specs::Calls::serial_good))]
 pub fn fill_verdict(table: &[u8], gauge: Gauge, lines: &[u8], picture: &[u8]) -> Verdict
     ensures { result ≡ fill_verdict (lent table.now gauge lines.now) picture.now }
 {
