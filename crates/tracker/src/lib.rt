@@ -32,7 +32,7 @@ fn has_key(r: Record, key: u64) -> bool
 }
 
 // The record of a key.
-#[tactic(auto, unfolding(rules::specs::Table::key_record, rules::specs::Pass::first_of, rules::specs::Pass::pass, rules::specs::Bytes::record_count))]
+#[tactic(auto, unfolding(rules::specs::Bytes::record_count))]
 pub fn key_record(table: &[u8], key: u64) -> Found
     ensures { result ≡ key_record key (record_at table.now) (record_count table.now) }
 {
@@ -81,7 +81,7 @@ pub struct Replacements {
 }
 
 // The first place whose record has no line, or the number of records.
-#[tactic(auto, unfolding(rules::specs::Table::free_record, rules::specs::Pass::first_of, rules::specs::Table::victim, rules::specs::Pass::best_of, rules::specs::Pass::pass, rules::specs::Bytes::record_count))]
+#[tactic(auto, unfolding(rules::specs::Bytes::record_count))]
 fn first_unlined(table: &[u8]) -> usize
     ensures { FirstUnlined (record_at table.now) (record_count table.now) result }
 {
@@ -107,7 +107,7 @@ fn serves(r: Record, least: u64) -> bool
 }
 
 // The same search from a place on, before which no record is free and the coldest without a line is known.
-#[tactic(auto, unfolding(rules::specs::Bytes::record_count, rules::specs::Table::free_record, rules::specs::Table::is_free))]
+#[tactic(auto, unfolding(rules::specs::Bytes::record_count))]
 fn replaceable_from(table: &[u8], from: usize, held: usize) -> Replacements
     requires { (from ≤ record_count table.now) × (held < record_count table.now) × ColdestYet (record_at table.now) from held }
     ensures { IsReplaceable (record_at table.now) (record_count table.now) result.free result.coldest }
@@ -137,7 +137,7 @@ fn replaceable_from(table: &[u8], from: usize, held: usize) -> Replacements
 }
 
 // What an untracked key can replace, in one pass that stops at a free record.
-#[tactic(auto, unfolding(rules::specs::Bytes::record_count, rules::specs::Table::free_record, rules::specs::Table::is_free))]
+#[tactic(auto, unfolding(rules::specs::Bytes::record_count))]
 pub fn replaceable(table: &[u8]) -> Replacements
     ensures { IsReplaceable (record_at table.now) (record_count table.now) result.free result.coldest }
 {
@@ -181,7 +181,7 @@ fn hotter_unlined(held: Found, i: usize, r: Record) -> Found
 }
 
 // The hottest record without a line.
-#[tactic(auto, unfolding(rules::specs::Table::hottest_unlined, rules::specs::Pass::best_of, rules::specs::Pass::pass, rules::specs::Bytes::record_count))]
+#[tactic(auto, unfolding(rules::specs::Bytes::record_count))]
 pub fn hottest_unlined(table: &[u8]) -> Found
     ensures { result ≡ hottest_unlined (record_at table.now) (record_count table.now) }
 {
@@ -237,7 +237,6 @@ fn mark_lines(table: &[u8], used: &mut [u8]) -> usize
 }
 
 // The lowest of the first lines that has no mark, or their number.
-#[tactic(auto, unfolding(crate::specs::Marks::lowest_unmarked, crate::specs::Marks::is_marked))]
 fn lowest_unmarked(used: &[u8], lines: usize) -> usize
     requires { lines < length used.now }
     ensures { result ≡ lowest_unmarked used.now lines }
