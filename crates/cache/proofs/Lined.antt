@@ -1,18 +1,15 @@
 -- What a lookup says: one that finds a line gives the place of a record on that line, and in a memory whose states name lines that
--- are there the line lies inside. One that finds none is one of two. Assumes nothing.
+-- are there the line lies inside. Assumes nothing.
 use Prim.Native.Nat.{ℕ, ◌+◌, ◌*◌, ◌≤◌, ◌<◌}
 use mathlib.Core.Path.{◌≡◌, refl}
 use mathlib.Core.Bool.{Bool, true, false}
-use mathlib.Core.Logic.{◌⊎◌, inl, inr}
 use native.Mathlib.Omega.{arith}
-use denote.Enum.Declared.{tag_of}
 use borrow.Author.Tests.{ltb-true}
 use lib.ListN.{length}
 use Rattle.rules.specs.declared.Record.{Record}
 use Rattle.rules.specs.declared.Found.{Found}
 use Rattle.rules.specs.declared.Found.TheVariants.{Nowhere, At}
 use Rattle.rules.specs.declared.Lookup.{Lookup}
-use Rattle.rules.specs.contracts.Lookup.{the_type}
 use Rattle.rules.specs.declared.Lookup.TheVariants.{Untracked, Unlined, Lined}
 use Rattle.rules.specs.Bytes.{line_size, line_count}
 use Rattle.rules.specs.Pass.{if◌then◌else◌}
@@ -52,11 +49,3 @@ module _ (m : Memory) (key i n : ℕ) (full : Bool) (ticket : ℕ) (fits : Lines
               let same : j ≡ i = cc in
               on_record r (rw same at h.inside) (rw same at h.is) l (cc)
           line false l e = let z : ◌≡◌ {A = ℕ} 0 1 = cc in absurd (omega arith)
-
--- what is so of a key without a record and of one without a line
-pub without_line : {A : Type 0} (f : Lookup → A) (a : A) → f Untracked ≡ a → f Unlined ≡ a →
-    (x : Lookup) → (tag_of the_type x ≡ 0) ⊎ (tag_of the_type x ≡ 1) → f x ≡ a
-without_line f a untracked unlined Untracked h = untracked
-without_line f a untracked unlined Unlined h = unlined
-without_line f a untracked unlined (Lined i n full ticket) (inl h) = absurd (omega arith)
-without_line f a untracked unlined (Lined i n full ticket) (inr h) = absurd (omega arith)

@@ -189,6 +189,7 @@ pub fn fill(
 // ---- Show
 
 // The picture of a class as it lies in its line, or the stand-in.
+#[tactic(auto, unfolding(rules::specs::Calls::show_line, rules::specs::Calls::unless, rules::specs::Steps::shown_line, rules::specs::Table::places, rules::specs::Table::size))]
 pub fn show<'a>(
     table: &[u8],
     gauge: Gauge,
