@@ -101,7 +101,6 @@ fn whole_entry(bytes: &[u8], at: usize) -> Entry
 }
 
 // The record at a position and the position after it. One of unknown form is passed over; a short end and an end are stayed at.
-#[tactic(auto, unfolding(rules::specs::Journal::entry_at, rules::specs::Journal::decoded))]
 pub fn decode(bytes: &[u8], at: usize) -> Decoded
     ensures { (result ≡ entry_at bytes.now at) × (entry_said result.entry ≡ said_at bytes.now at) }
 {
@@ -125,7 +124,7 @@ pub fn decode(bytes: &[u8], at: usize) -> Decoded
 
 // ---- the reader
 
-#[derive(Drop)]
+#[derive(Clone, Copy)]
 pub struct Reader<'a> {
     pub bytes: &'a [u8],
     pub at: usize,
@@ -139,6 +138,7 @@ pub fn open<'a>(bytes: &'a [u8]) -> Reader<'a>
 }
 
 // The next record. The reader moves to the position after it.
+#[tactic(auto, unfolding(rules::specs::Journal::decoded))]
 pub fn next<'a>(reader: &mut Reader<'a>) -> Entry
     ensures { (decoded result reader.new.at ≡ entry_at reader.old.bytes.now reader.old.at)
         × (reader.new.bytes ≡ reader.old.bytes)

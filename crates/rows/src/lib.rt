@@ -26,7 +26,6 @@ fn put_bytes(out: &mut [u8], at: usize, bytes: &[u8]) -> usize
 }
 
 // Writes the last digits of a number, at most so many.
-#[tactic(auto, unfolding(rules::specs::Journal::digits))]
 fn put_digits(out: &mut [u8], at: usize, most: usize, n: u64) -> usize
     requires { at + most ≤ length out.old }
     ensures { Puts out.old at (digits most n) result out.new × (result ≤ at + most) }
@@ -43,7 +42,7 @@ fn put_digits(out: &mut [u8], at: usize, most: usize, n: u64) -> usize
     end + 1
 }
 
-#[tactic(auto, unfolding(rules::specs::Journal::word_of, rules::specs::Journal::decimal))]
+#[tactic(auto, unfolding(rules::specs::Journal::word_of))]
 fn put_word(out: &mut [u8], at: usize, answer: Answer) -> usize
     requires { at + 28 ≤ length out.old }
     ensures { Puts out.old at (word_of answer) result out.new × (result ≤ at + 28) }
@@ -64,7 +63,6 @@ fn put_word(out: &mut [u8], at: usize, answer: Answer) -> usize
 }
 
 // Writes a space and a number.
-#[tactic(auto, unfolding(rules::specs::Journal::decimal))]
 fn put_number(out: &mut [u8], at: usize, n: u64) -> usize
     requires { at + 21 ≤ length out.old }
     ensures { Puts out.old at (32 ∷ decimal n) result out.new × (result ≤ at + 21) }
@@ -74,7 +72,6 @@ fn put_number(out: &mut [u8], at: usize, n: u64) -> usize
 }
 
 // Writes a row: number, word, total, ceiling.
-#[tactic(auto, unfolding(rules::specs::Journal::printed, rules::specs::Journal::decimal))]
 pub fn put_row(out: &mut [u8], at: usize, number: u64, answer: Answer, gauge: Gauge) -> usize
     requires { at + row_size ≤ length out.old }
     ensures { Puts out.old at (printed (record { number = number; word = word_of answer; total = gauge.total; ceiling = gauge.ceiling })) result out.new }
