@@ -5,10 +5,10 @@
 set -euo pipefail
 cd "$(dirname "$0")/.."
 
-library=target/staticlib/libcot.a
+library=crates/cot/out/libcot.a
 out=target/bench
 
-[ -f "$library" ] || rt staticlib cot
+[ -f "$library" ] || (cd crates/cot && rt lib)
 mkdir -p "$out"
 rustc -O --edition 2021 -D warnings -L native="$(dirname "$library")" -l static=cot \
     -o "$out/hits" bench/hits.rs

@@ -4,11 +4,11 @@
 set -euo pipefail
 cd "$(dirname "$0")/.."
 
-library=target/staticlib/libcot.a
+library=crates/cot/out/libcot.a
 out=target/bench
 flags=(-O2 -std=c11 -Wall -Wextra -Werror)
 
-[ -f "$library" ] || rt staticlib cot
+[ -f "$library" ] || (cd crates/cot && rt lib)
 mkdir -p "$out"
 gcc "${flags[@]}" -c bench/speed.c -o "$out/speed.o"
 gcc "${flags[@]}" -c bench/plain.c -o "$out/plain.o"

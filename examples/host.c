@@ -1,6 +1,6 @@
 /* host.c: how a C host uses the cache.
  *
- *     gcc -std=c11 -O2 -Iinclude examples/host.c target/staticlib/libcot.a -o host && ./host
+ *     gcc -std=c11 -O2 -Iinclude examples/host.c crates/cot/out/libcot.a -o host && ./host
  */
 #include "cot.h"
 

@@ -13,7 +13,7 @@ if [ "$#" -gt 0 ]; then
     limit=7200
 fi
 
-rustc -O --edition 2021 -D warnings -L native=target/staticlib \
+rustc -O --edition 2021 -D warnings -L native="$(dirname "$library")" \
     -o "$out/compare" tests/compare/main.rs
 status=0
 timeout "$limit" "$out/compare" "$@" || status=$?

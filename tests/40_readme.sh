@@ -5,20 +5,20 @@ cd "$(dirname "$0")/.."
 
 room=$(mktemp -d)
 trap 'rm -rf "$room"' EXIT
-cp -R crates crates.txt "$room"
-# what is proved already need not be proved again
-for part in rlib stamp; do
-    if [ -d "target/$part" ]; then
-        mkdir -p "$room/target"
-        cp -R "target/$part" "$room/target/$part"
+cp crates.txt "$room"
+# what is built already need not be proved again
+for part in crates/*/src crates/*/specs crates/*/proofs crates/*/out/rlib; do
+    if [ -d "$part" ]; then
+        mkdir -p "$room/${part%/*}"
+        cp -R "$part" "$room/$part"
     fi
 done
 sed -n 's/^    \(myhost: .*\)$/\1/p' README.md >>"$room/crates.txt"
 mkdir -p "$room/crates/myhost/src"
 sed -n '/^```rust$/,/^```$/{//!p;}' README.md >"$room/crates/myhost/src/main.rt"
 
-cd "$room"
-rt check myhost >"$room/said" 2>&1 || {
+cd "$room/crates/myhost"
+rt run >"$room/said" 2>&1 </dev/null || {
     tail -n 20 "$room/said"
     exit 1
 }

@@ -6,18 +6,20 @@
 use fields::fresh_gauge;
 use journal::read_at;
 use lending::first_two;
-use libc::STDOUT_FILENO;
 use rules::{Answer, Completion, Decoded, Entry, Gauge, Levels, Reply, SERIAL_LIMIT};
 
 // ---- printing
 
+// The descriptor of standard output.
+const OUTPUT: i32 = 1;
+
 fn say(words: &[u8]) {
-    io::write_all(STDOUT_FILENO, words);
+    io::write_all(OUTPUT, words);
 }
 
 fn say_number(n: u64) {
     say(b" ");
-    io::print_decimal(STDOUT_FILENO, n);
+    io::print_decimal(OUTPUT, n);
 }
 
 fn say_byte(byte: u8) {

@@ -11,11 +11,15 @@ ghost use Rattle.replay.specs.Pieces.{piece_records, piece_size, rows_size, Runs
 
 use fields::fresh_gauge;
 use journal::ENTRY_SIZE;
-use libc::{STDIN_FILENO, STDOUT_FILENO};
 use records::{LINE_SIZE, RECORD_SIZE};
 use rows::ROW_SIZE;
 use rules::Gauge;
 use runner::Progress;
+
+// The descriptors of standard input and output.
+const INPUT: i32 = 0;
+
+const OUTPUT: i32 = 1;
 
 // The bytes of the table: K = 3. The lines are one, C = 1.
 const TABLE_SIZE: usize = RECORD_SIZE * 3;
@@ -47,10 +51,10 @@ fn run_piece(
     requires { (length piece.old ≡ piece_size) × (length out.old ≡ rows_size) × (numbered + piece_records < 2 ^ 64) }
     ensures { RunsPiece (going_on (lent table.old gauge lines.old) numbered) piece.new out.old result (lent table.new result.progress.gauge lines.new) out.new }
 {
-    let got = io::read_full(STDIN_FILENO, piece);
+    let got = io::read_full(INPUT, piece);
     let ended = runner::run(table, gauge, lines, &piece[..got], numbered, out);
     let progress = ended.progress;
-    let wrote = io::write_all(STDOUT_FILENO, &out[..progress.end]);
+    let wrote = io::write_all(OUTPUT, &out[..progress.end]);
     Ran {
         progress,
         got,
