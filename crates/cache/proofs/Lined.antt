@@ -12,7 +12,7 @@ use Rattle.rules.specs.declared.Found.TheVariants.{Nowhere, At}
 use Rattle.rules.specs.declared.Lookup.{Lookup}
 use Rattle.rules.specs.declared.Lookup.TheVariants.{Untracked, Unlined, Lined}
 use Rattle.rules.specs.Bytes.{line_size, line_count}
-use Rattle.rules.specs.Pass.{if◌then◌else◌}
+use Rattle.std.specs.Prelude.{if◌then◌else◌}
 use Rattle.rules.specs.Table.{Memory, is_lined, is_filled, line_of, key_record, lookup, looked_up, places, size, line_total}
 use Rattle.rules.specs.Calls.{most_records}
 use Rattle.rules.proofs.Finds.{key_found}

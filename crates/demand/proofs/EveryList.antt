@@ -12,7 +12,7 @@ use Rattle.rules.specs.declared.Completion.TheVariants.{Done}
 use Rattle.rules.specs.declared.Verdict.{Verdict}
 use Rattle.rules.specs.declared.Verdict.TheVariants.{Accepted}
 use Rattle.rules.specs.Bytes.{record_size, gauge_size}
-use Rattle.rules.specs.Pass.{if◌then◌else◌}
+use Rattle.std.specs.Prelude.{if◌then◌else◌}
 use Rattle.rules.specs.Table.{Memory, is_tracked, is_unlined, is_lined, filled_state, places, size, line_total}
 use Rattle.rules.specs.Answers.{is_refused}
 use Rattle.rules.specs.Steps.{outcome, level, levelled_sum, age_steps, read_steps, update_steps, fill_steps}

@@ -12,7 +12,7 @@ use borrow.Author.Tests.{eq-eqb}
 use Rattle.rules.specs.declared.Record.{Record}
 use Rattle.rules.specs.declared.Found.TheVariants.{Nowhere}
 use Rattle.rules.specs.Bytes.{get64, line_count}
-use Rattle.rules.specs.Pass.{if◌then◌else◌}
+use Rattle.std.specs.Prelude.{if◌then◌else◌}
 use Rattle.rules.specs.Table.{Memory, key_record, places, size, with_lines}
 use Rattle.rules.specs.Answers.{is_refused, number_of, completion_number}
 use Rattle.rules.specs.Calls.{read_outcome, fill_outcome, fresh_outcome, host_lent, HostRead, read_lent, put_ticket, hosted_read, exported_read, exported_fresh}

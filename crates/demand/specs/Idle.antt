@@ -1,10 +1,9 @@
 -- The five idle versions that have to break the contracts. Each but the one that refuses all is refused where its contract says so, and
 -- is idle only where a call is accepted.
-use Rattle.std.specs.Prelude.{ℕ, ◌+◌, ◌≡◌, List, [], ◌∷◌, length, replicate, eqb}
+use Rattle.std.specs.Prelude.{ℕ, ◌+◌, ◌≡◌, List, [], ◌∷◌, length, replicate, eqb, if◌then◌else◌}
 use Rattle.rules.specs.declared.Gauge.{Gauge}
 use Rattle.rules.specs.declared.Answer.{Answer}
 use Rattle.rules.specs.declared.Answer.TheVariants.{Unknown, Passed, Refused}
-use Rattle.rules.specs.Pass.{if◌then◌else◌}
 use Rattle.rules.specs.Table.{Memory, size, with_total, with_ceiling, with_table, with_gauge}
 use Rattle.rules.specs.Answers.{no_line, wrong_sizes, is_refused}
 use Rattle.rules.specs.Steps.{Outcome, outcome, decay_for, grown, peek_steps, read_steps}

@@ -1,8 +1,7 @@
 -- The list of demand 3: its calls, what they are lent, how one follows another, what the replay makes of them, and which tickets their
 -- updates leave stale.
-use Rattle.std.specs.Prelude.{ℕ, ◌<◌, ◌^◌, ◌≡◌, List, [], ◌∷◌, Bool, true, false, ◌||◌, eqb}
+use Rattle.std.specs.Prelude.{ℕ, ◌<◌, ◌^◌, ◌≡◌, List, [], ◌∷◌, Bool, true, false, ◌||◌, eqb, if◌then◌else◌}
 use Rattle.rules.specs.declared.Answer.{Answer}
-use Rattle.rules.specs.Pass.{if◌then◌else◌}
 use Rattle.rules.specs.Table.{Memory}
 use Rattle.rules.specs.Answers.{is_refused}
 use Rattle.rules.specs.Steps.{Outcome, outcome}

@@ -11,7 +11,8 @@ use borrow.Author.Tests.{eq-eqb, eqb-true}
 use lib.Dec.{eqb}
 use Rattle.rules.specs.declared.Record.{Record}
 use Rattle.rules.specs.declared.Gauge.{Gauge}
-use Rattle.rules.specs.Pass.{if◌then◌else◌, sum_where}
+use Rattle.std.specs.Prelude.{if◌then◌else◌}
+use Rattle.rules.specs.Pass.{sum_where}
 use Rattle.rules.specs.Table.{aged_record, half_down, half_up, is_free, is_zero, line_of}
 use Rattle.rules.specs.Steps.{aged_gauge, level}
 use Rattle.rules.specs.Replay.{Filled, Truth, age_truth}

@@ -19,7 +19,7 @@ use Rattle.rules.specs.declared.Found.TheVariants.{Nowhere, At}
 use Rattle.rules.specs.declared.Answer.{Answer}
 use Rattle.rules.specs.declared.Answer.TheVariants.{Aged, Changed, Unknown, Stored, Passed, Hit, Wanted, Refused}
 use Rattle.rules.specs.Bytes.{number_size, get64, line_count}
-use Rattle.rules.specs.Pass.{if◌then◌else◌}
+use Rattle.std.specs.Prelude.{if◌then◌else◌}
 use Rattle.rules.specs.Table.{Memory, is_tracked, is_lined, is_filled, line_of, empty_state, with_state, with_ticket, heated, aged_record, half_down, new_record, unlined, on_empty_line, has_key, key_record, free_record, victim, hotter, coldest_lined, lowest_unused, most_total, places, size, line_total, with_table, with_gauge, write}
 use Rattle.rules.specs.Answers.{number_of, is_refused, Told, Said, said, values_of, answer_said}
 use Rattle.rules.specs.Steps.{Outcome, aged_gauge, aged, next_ticket, ticketed, give_line, hand_over, decay_for, grown, track, raised, evict, replace_coldest, promote, admit, read_answer, admission, place, read_counted, warm_steps, peek_answer, peek_steps, read_steps}

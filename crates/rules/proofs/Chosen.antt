@@ -4,7 +4,8 @@ use mathlib.Core.Path.{◌≡◌, refl}
 use mathlib.Core.Bool.{Bool, true, false}
 use mathlib.Core.Logic.{◌≢◌}
 use native.Mathlib.Omega.{arith}
-use Rattle.rules.specs.Pass.{if◌then◌else◌, pass, sum_of, count_of, sum_where, count_where}
+use Rattle.std.specs.Prelude.{if◌then◌else◌}
+use Rattle.rules.specs.Pass.{pass, sum_of, count_of, sum_where, count_where}
 use Rattle.rules.proofs.Searches.{sum_most, sum_le, sum_more, sum_halved}
 
 -- an amount that is counted or not

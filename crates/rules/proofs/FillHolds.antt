@@ -13,7 +13,7 @@ use Rattle.rules.specs.declared.Found.{Found}
 use Rattle.rules.specs.declared.Found.TheVariants.{Nowhere, At}
 use Rattle.rules.specs.declared.Lookup.TheVariants.{Lined, Unlined}
 use Rattle.rules.specs.Bytes.{line_size, line_count, line_at, put_line}
-use Rattle.rules.specs.Pass.{if◌then◌else◌}
+use Rattle.std.specs.Prelude.{if◌then◌else◌}
 use Rattle.rules.specs.Table.{Memory, is_lined, is_filled, line_of, empty_state, filled_state, filled, key_record, looked_up, lookup, places, size, line_total, with_table, with_lines, write}
 use Rattle.rules.specs.Answers.{is_refused}
 use Rattle.rules.specs.Steps.{store_in, store, fill_steps}

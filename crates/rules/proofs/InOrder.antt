@@ -13,7 +13,8 @@ use lib.Dec.{ltb, eqb}
 use Rattle.rules.specs.declared.Record.{Record}
 use Rattle.rules.specs.declared.Gauge.{Gauge}
 use Rattle.rules.specs.declared.Found.TheVariants.{Nowhere}
-use Rattle.rules.specs.Pass.{if◌then◌else◌, pass, sum_of, count_of}
+use Rattle.std.specs.Prelude.{if◌then◌else◌}
+use Rattle.rules.specs.Pass.{pass, sum_of, count_of}
 use Rattle.rules.specs.Table.{is_tracked, is_lined, is_zero, line_of, record_in_order, in_order, free_record, victim, most_total}
 use Rattle.rules.specs.Replay.{Truth}
 use Rattle.rules.proofs.Searches.{both, all_at, all_of_lem, sum_most, sum_le, count_below}

@@ -20,7 +20,7 @@ use Rattle.rules.specs.declared.Levels.{Levels}
 use Rattle.rules.specs.declared.Answer.{Answer}
 use Rattle.rules.specs.declared.Entry.{Entry}
 use Rattle.rules.specs.declared.Entry.TheVariants.{Read, Update, Fill, Age, Done}
-use Rattle.rules.specs.Pass.{if◌then◌else◌}
+use Rattle.std.specs.Prelude.{if◌then◌else◌}
 use Rattle.rules.specs.Table.{Memory, is_lined, is_filled, line_of, key_record, looked_up, lookup, places, size, fresh_memory}
 use Rattle.rules.specs.Answers.{number_of, said, completion_said, levels_said, lookup_said, entry_said, no_line, already_filled, stale_ticket, unknown_form, short_end, read_kind, update_kind, fill_kind, age_kind}
 use Rattle.rules.specs.Steps.{Outcome, outcome, age_steps, change, update_steps, store_in, store, fill_steps, levelled_sum}

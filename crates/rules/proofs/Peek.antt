@@ -16,7 +16,7 @@ use Rattle.rules.specs.declared.Found.TheVariants.{Nowhere, At}
 use Rattle.rules.specs.declared.Lookup.TheVariants.{Unlined, Lined}
 use Rattle.rules.specs.declared.Answer.{Answer}
 use Rattle.rules.specs.declared.Answer.TheVariants.{Passed, Hit, Wanted}
-use Rattle.rules.specs.Pass.{if◌then◌else◌}
+use Rattle.std.specs.Prelude.{if◌then◌else◌}
 use Rattle.rules.specs.Table.{Memory, is_lined, is_filled, line_of, looked_up, lookup, key_record, places, size}
 use Rattle.rules.specs.Steps.{Outcome, read_answer, warm_steps, peek_answer, peek_steps, read_steps, shown_line}
 use Rattle.rules.specs.Calls.{verdict, serial_test, unless, leaving, plain_verdict, read_weight_good, read_verdict, read_outcome, show_line}

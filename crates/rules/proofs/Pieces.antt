@@ -16,7 +16,7 @@ use Rattle.rules.specs.declared.Entry.{Entry}
 use Rattle.rules.specs.declared.Entry.TheVariants.{Read, Update, Fill, Age}
 use Rattle.rules.specs.Answers.{read_kind, update_kind, fill_kind}
 use Rattle.rules.specs.Bytes.{get64, line_size}
-use Rattle.rules.specs.Pass.{if◌then◌else◌}
+use Rattle.std.specs.Prelude.{if◌then◌else◌}
 use Rattle.rules.specs.Table.{Memory}
 use Rattle.rules.specs.Journal.{Row, Run, entry_size, entry_count, kind_at, weight_at, key_at, ticket_at, zeros, gaps_zero, picture_zero, weight_zero, key_zero, ticket_zero, picture_place, picture_at, of_form, whole_entry, decoded, entry_at, row_of, printing, performed, is_end, perform, run_for, going_on, Joined}
 

@@ -13,7 +13,7 @@ use Rattle.rules.specs.declared.Found.{Found}
 use Rattle.rules.specs.declared.Found.TheVariants.{Nowhere, At}
 use Rattle.rules.specs.Bytes.{line_at}
 use Rattle.rules.specs.declared.Answer.{Answer}
-use Rattle.rules.specs.Pass.{if◌then◌else◌}
+use Rattle.std.specs.Prelude.{if◌then◌else◌}
 use Rattle.rules.specs.Table.{Memory, is_free, filled_state, heated, new_record, key_record, free_record, victim, half_down, most_total, places, size, line_total, with_table, with_gauge, write}
 use Rattle.rules.specs.Steps.{Outcome, aged, aged_gauge, decay_for, grown, track, raised, evict, admission, place, read_counted, warm_steps, peek_steps, read_steps, level}
 use Rattle.rules.specs.Calls.{most_weight, serial_limit}

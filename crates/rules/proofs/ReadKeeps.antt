@@ -9,7 +9,7 @@ use native.Mathlib.Omega.{arith}
 use borrow.Author.Tests.{le-ltb, ne_eqb}
 use Rattle.rules.specs.declared.Record.{Record}
 use Rattle.rules.specs.declared.Gauge.{Gauge}
-use Rattle.rules.specs.Pass.{if◌then◌else◌}
+use Rattle.std.specs.Prelude.{if◌then◌else◌}
 use Rattle.rules.specs.Table.{with_total, with_ceiling, heated, new_record, most_total, line_of, is_zero, is_free, is_lined, is_on, is_used}
 use Rattle.rules.specs.Steps.{level}
 use Rattle.rules.specs.Replay.{Truth, at, grown_truth}

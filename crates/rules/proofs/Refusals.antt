@@ -18,7 +18,7 @@ use Rattle.rules.specs.declared.Lookup.TheVariants.{Untracked, Unlined, Lined}
 use Rattle.rules.specs.declared.Answer.{Answer}
 use Rattle.rules.specs.declared.Answer.TheVariants.{Aged, Changed, Unknown, Stored, Passed, Hit, Wanted, Refused}
 use Rattle.rules.specs.Bytes.{gauge_size}
-use Rattle.rules.specs.Pass.{if◌then◌else◌}
+use Rattle.std.specs.Prelude.{if◌then◌else◌}
 use Rattle.rules.specs.Table.{Memory, is_lined, is_filled, line_of, lookup, places, size}
 use Rattle.rules.specs.Answers.{is_refused, number_of, values_of, Told, stale_ticket}
 use Rattle.rules.specs.Steps.{Outcome, outcome, age_steps, read_answer, admission, place, read_counted, warm_steps, peek_answer, peek_steps, read_steps, change, update_steps, store_in, store, fill_steps, decay_for, grown}

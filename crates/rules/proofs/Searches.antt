@@ -13,7 +13,8 @@ use lib.Dec.{ltb}
 use Rattle.rules.specs.declared.Record.{Record}
 use Rattle.rules.specs.declared.Found.{Found}
 use Rattle.rules.specs.declared.Found.TheVariants.{Nowhere, At}
-use Rattle.rules.specs.Pass.{if◌then◌else◌, pass, first, best, first_of, best_of, sum_of, count_of, all_of, any_of, lowest_not}
+use Rattle.std.specs.Prelude.{if◌then◌else◌}
+use Rattle.rules.specs.Pass.{pass, first, best, first_of, best_of, sum_of, count_of, all_of, any_of, lowest_not}
 
 -- no test both passes and fails
 pub clash : {A : Type 0} {b : Bool} → b ≡ true → b ≡ false → A

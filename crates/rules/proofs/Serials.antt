@@ -14,7 +14,7 @@ use Rattle.rules.specs.declared.Answer.{Answer}
 use Rattle.rules.specs.declared.Answer.TheVariants.{Refused}
 use Rattle.rules.specs.declared.Verdict.{Verdict}
 use Rattle.rules.specs.declared.Verdict.TheVariants.{Accepted}
-use Rattle.rules.specs.Pass.{if◌then◌else◌}
+use Rattle.std.specs.Prelude.{if◌then◌else◌}
 use Rattle.rules.specs.Table.{Memory, is_lined, hotter, key_record, lookup, most_total, places, size, line_total, coldest_lined, hottest_unlined, lowest_unused, with_table, with_gauge, with_lines, write}
 use Rattle.rules.specs.Steps.{Outcome, outcome, aged_gauge, aged, age_steps, next_ticket, ticketed, GivesOne, renew, give_line, hand_over, decay_for, grown, track, raised, evict, replace_coldest, promote, admit, admission, place, read_counted, warm_steps, peek_steps, read_steps, demote_for, demote, change, update_steps, store_in, store, fill_steps}
 use Rattle.rules.specs.Answers.{stale_ticket}

@@ -10,7 +10,7 @@ use Rattle.rules.specs.declared.Gauge.{Gauge}
 use Rattle.rules.specs.declared.Found.{Found}
 use Rattle.rules.specs.declared.Found.TheVariants.{Nowhere, At}
 use Rattle.rules.specs.Bytes.{line_at}
-use Rattle.rules.specs.Pass.{if◌then◌else◌}
+use Rattle.std.specs.Prelude.{if◌then◌else◌}
 use Rattle.rules.specs.Table.{Memory, is_lined, line_of, empty_state, with_state, cooled, emptied, key_record, places, size, line_total, write}
 use Rattle.rules.specs.Steps.{demote, change, update_steps}
 use Rattle.rules.specs.Calls.{serial_limit}

@@ -12,7 +12,7 @@ use borrow.Author.Tests.{ltb-true, ltb-false, eq-eqb, ne_eqb}
 use lib.Dec.{ltb}
 use Rattle.rules.specs.declared.Record.{Record}
 use Rattle.rules.specs.declared.Gauge.{Gauge}
-use Rattle.rules.specs.Pass.{if◌then◌else◌}
+use Rattle.std.specs.Prelude.{if◌then◌else◌}
 use Rattle.rules.specs.Table.{cooled, emptied, empty_state, filled_state, is_free, is_lined, is_zero, line_of, with_state}
 use Rattle.rules.specs.Steps.{level}
 use Rattle.rules.specs.Replay.{Filled, Truth, at, update_truth, update_stale}

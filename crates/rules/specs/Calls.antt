@@ -1,5 +1,5 @@
 -- One definition a call: its answer and all it leaves, for accepted and refused calls alike, by a Rattle caller or a C host.
-use Rattle.std.specs.Prelude.{ℕ, ◌*◌, ◌≤◌, ◌<◌, ◌≡◌, List, [], ◌∷◌, Bool, ◌&&◌, ◌||◌, length, ltb, leb, eqb}
+use Rattle.std.specs.Prelude.{ℕ, ◌*◌, ◌≤◌, ◌<◌, ◌≡◌, List, [], ◌∷◌, Bool, ◌&&◌, ◌||◌, length, ltb, leb, eqb, if◌then◌else◌}
 use Rattle.std.proofs.Math.Option.{Option, none}
 use Rattle.rules.specs.declared.Gauge.{Gauge}
 use Rattle.rules.specs.declared.Verdict.{Verdict}
@@ -11,7 +11,6 @@ use Rattle.rules.specs.declared.Answer.TheVariants.{Aged, Changed, Unknown, Stor
 use Rattle.rules.specs.declared.Completion.{Completion}
 use Rattle.rules.specs.declared.Levels.{Levels}
 use Rattle.rules.specs.Bytes.{number_size, put64, record_size, record_count, line_size, line_count, gauge_size, gauge_at, put_gauge}
-use Rattle.rules.specs.Pass.{if◌then◌else◌}
 use Rattle.rules.specs.Table.{Memory, in_order, lookup, places, size, line_total, fresh_memory}
 use Rattle.rules.specs.Answers.{number_of, done_number, completion_number, wrong_sizes, wrong_weight, not_in_order, wrong_picture, serial_spent}
 use Rattle.rules.specs.Steps.{Outcome, outcome, age_steps, read_steps, update_steps, fill_steps, shown_line, levelled_sum}

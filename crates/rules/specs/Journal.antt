@@ -1,12 +1,11 @@
 -- The journal: its record forms, reading it from a position, and running a whole journal on a memory with the rows it prints.
-use Rattle.std.specs.Prelude.{ℕ, zero, suc, ◌+◌, ◌-◌, ◌*◌, ◌/◌, ◌%◌, ◌≡◌, List, [], ◌∷◌, ◌++◌, Bool, true, false, ◌&&◌, length, get_or, take, drop, ltb, leb, eqb}
+use Rattle.std.specs.Prelude.{ℕ, zero, suc, ◌+◌, ◌-◌, ◌*◌, ◌/◌, ◌%◌, ◌≡◌, List, [], ◌∷◌, ◌++◌, Bool, true, false, ◌&&◌, length, get_or, take, drop, ltb, leb, eqb, if◌then◌else◌}
 use Rattle.rules.specs.declared.Entry.{Entry}
 use Rattle.rules.specs.declared.Entry.TheVariants.{Read, Update, Fill, Age, Done}
 use Rattle.rules.specs.declared.Decoded.{Decoded}
 use Rattle.rules.specs.declared.Answer.{Answer}
 use Rattle.rules.specs.declared.Answer.TheVariants.{Aged, Changed, Unknown, Stored, Passed, Hit, Wanted, Refused}
 use Rattle.rules.specs.Bytes.{get64, line_size}
-use Rattle.rules.specs.Pass.{if◌then◌else◌}
 use Rattle.rules.specs.Table.{Memory}
 use Rattle.rules.specs.Answers.{unknown_form, short_end, read_kind, update_kind, fill_kind, age_kind}
 use Rattle.rules.specs.Steps.{Outcome, outcome}

@@ -1,13 +1,12 @@
 -- What each call answers, by the paper's numbers and values, read off its tests, the table and the journal's bytes: not by the cases of
 -- an answer, so that number and values of every case (Answers.antt) are held to it. And what a caller may make of a line's number.
-use Rattle.std.specs.Prelude.{ℕ, ◌+◌, ◌-◌, ◌≤◌, ◌<◌, ◌^◌, ◌≡◌, List, [], ◌∷◌, Bool, ◌&&◌, ◌||◌, length, ltb, leb, eqb}
+use Rattle.std.specs.Prelude.{ℕ, ◌+◌, ◌-◌, ◌≤◌, ◌<◌, ◌^◌, ◌≡◌, List, [], ◌∷◌, Bool, ◌&&◌, ◌||◌, length, ltb, leb, eqb, if◌then◌else◌}
 use Rattle.std.proofs.Math.Option.{none, some}
 use Rattle.rules.specs.declared.Answer.{Answer}
 use Rattle.rules.specs.declared.Answer.TheVariants.{Hit, Wanted}
 use Rattle.rules.specs.declared.Found.{Found}
 use Rattle.rules.specs.declared.Found.TheVariants.{Nowhere, At}
 use Rattle.rules.specs.Bytes.{get64}
-use Rattle.rules.specs.Pass.{if◌then◌else◌}
 use Rattle.rules.specs.Table.{Memory, is_lined, is_filled, line_of, key_record, places, size}
 use Rattle.rules.specs.Answers.{Said, said, no_line, already_filled, unknown_form, short_end}
 use Rattle.rules.specs.Steps.{read_steps, levelled_sum}

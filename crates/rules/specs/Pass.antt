@@ -1,14 +1,9 @@
 -- A pass over the first n elements f 0, f 1, ..: what it holds after each is decided by what it held, the element and its place.
 -- Everything that is looked for in the table is one of these, at a test and an order.
-use Rattle.std.specs.Prelude.{ℕ, zero, suc, ◌+◌, Bool, true, false, ◌&&◌, ltb}
+use Rattle.std.specs.Prelude.{ℕ, zero, suc, ◌+◌, Bool, true, false, ◌&&◌, ltb, if◌then◌else◌}
 use Rattle.rules.specs.declared.Record.{Record}
 use Rattle.rules.specs.declared.Found.{Found}
 use Rattle.rules.specs.declared.Found.TheVariants.{Nowhere, At}
-
-infix 5 if◌then◌else◌
-abbrev pub if◌then◌else◌ {ℓ} : {A : Type ℓ} → Bool → A → A → A
-if true then a else b = a
-if false then a else b = b
 
 unfoldable pub pass : {A B : Type 0} → (A → ℕ → B → A) → A → (ℕ → B) → ℕ → A
 pass step held f zero = held

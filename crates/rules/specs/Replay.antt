@@ -1,8 +1,7 @@
 -- The replay of demand 3: what it keeps, and what each accepted call does to it. Nothing in the table, gauge or lines is read for it;
 -- its start is told K. And, which is no part of it, what an accepted update leaves of stale tickets.
-use Rattle.std.specs.Prelude.{ℕ, ◌+◌, ◌-◌, List, ltb, eqb}
+use Rattle.std.specs.Prelude.{ℕ, ◌+◌, ◌-◌, List, ltb, eqb, if◌then◌else◌}
 use Rattle.std.proofs.Math.Option.{Option, none, some}
-use Rattle.rules.specs.Pass.{if◌then◌else◌}
 use Rattle.rules.specs.Table.{half_down, most_total}
 
 -- A picture, with the ticket that its fill brought.

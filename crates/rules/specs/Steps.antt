@@ -1,5 +1,5 @@
 -- The steps of age, read, update, fill, show and the levelled sum, on a memory that no refusal holds for (Calls.antt).
-use Rattle.std.specs.Prelude.{ℕ, ◌+◌, ◌≤◌, max, List, true, false, ltb, eqb}
+use Rattle.std.specs.Prelude.{ℕ, ◌+◌, ◌≤◌, max, List, true, false, ltb, eqb, if◌then◌else◌}
 use Rattle.std.proofs.Math.Option.{Option, none, some}
 use Rattle.rules.specs.declared.Record.{Record}
 use Rattle.rules.specs.declared.Gauge.{Gauge}
@@ -11,7 +11,7 @@ use Rattle.rules.specs.declared.Answer.{Answer}
 use Rattle.rules.specs.declared.Answer.TheVariants.{Aged, Changed, Unknown, Stored, Passed, Hit, Wanted, Refused}
 use Rattle.rules.specs.Answers.{no_line, already_filled, stale_ticket}
 use Rattle.rules.specs.Bytes.{put_line}
-use Rattle.rules.specs.Pass.{if◌then◌else◌, sum_of}
+use Rattle.rules.specs.Pass.{sum_of}
 use Rattle.rules.specs.Table.{Memory, is_free, is_lined, is_filled, line_of, with_ticket, with_total, with_ceiling, with_serial, aged_record, half_down, heated, cooled, new_record, unlined, on_empty_line, emptied, filled, key_record, free_record, victim, coldest_lined, hottest_unlined, hotter, lowest_unused, lookup, most_total, places, size, line_total, with_table, with_gauge, with_lines, write, change_all}
 
 -- What a call does: its answer, and what it leaves of what it was lent.

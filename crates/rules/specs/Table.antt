@@ -1,5 +1,5 @@
 -- What a record's state says, what can happen to a record, what is looked for in a table, and when a table is in order.
-use Rattle.std.specs.Prelude.{ℕ, zero, suc, ◌+◌, ◌*◌, ◌-◌, ◌/◌, ◌%◌, List, Bool, ◌&&◌, ◌||◌, length, replicate, ltb, leb, eqb}
+use Rattle.std.specs.Prelude.{ℕ, zero, suc, ◌+◌, ◌*◌, ◌-◌, ◌/◌, ◌%◌, List, Bool, ◌&&◌, ◌||◌, length, replicate, ltb, leb, eqb, if◌then◌else◌}
 use Rattle.rules.specs.declared.Record.{Record}
 use Rattle.rules.specs.declared.Gauge.{Gauge}
 use Rattle.rules.specs.declared.Found.{Found}
@@ -7,7 +7,7 @@ use Rattle.rules.specs.declared.Found.TheVariants.{Nowhere, At}
 use Rattle.rules.specs.declared.Lookup.{Lookup}
 use Rattle.rules.specs.declared.Lookup.TheVariants.{Untracked, Unlined, Lined}
 use Rattle.rules.specs.Bytes.{record_at, put_record, record_count, line_count}
-use Rattle.rules.specs.Pass.{if◌then◌else◌, first_of, best_of, count_of, all_of, any_of, lowest_not}
+use Rattle.rules.specs.Pass.{first_of, best_of, count_of, all_of, any_of, lowest_not}
 
 -- What a call is lent. A C host lends the gauge as bytes (Calls.antt).
 pub record Memory : Type 0 where

@@ -12,7 +12,7 @@ use Rattle.rules.specs.declared.Decoded.{Decoded}
 use Rattle.rules.specs.Table.{Memory}
 use Rattle.rules.specs.Steps.{Outcome}
 use Rattle.rules.specs.Journal.{Run, entry_at, entry_count, is_end, perform, performed, printed_all, printing, run_for}
-use Rattle.rules.specs.Pass.{if◌then◌else◌}
+use Rattle.std.specs.Prelude.{if◌then◌else◌}
 use Rattle.rules.proofs.Searches.{lowest_none}
 use Rattle.rows.specs.Written.{row_size}
 use Rattle.rows.proofs.Sizes.{row_short}

@@ -16,7 +16,7 @@ use Rattle.rules.specs.declared.Entry.TheVariants.{Read, Update, Fill, Age, Refu
 use Rattle.rules.specs.declared.Decoded.{Decoded}
 use Rattle.rules.specs.contracts.Entry.{the_type}
 use Rattle.rules.specs.Answers.{unknown_form, short_end, read_kind, update_kind, fill_kind, age_kind}
-use Rattle.rules.specs.Pass.{if◌then◌else◌}
+use Rattle.std.specs.Prelude.{if◌then◌else◌}
 use Rattle.rules.specs.Table.{Memory}
 use Rattle.rules.specs.Steps.{Outcome}
 use Rattle.rules.specs.Journal.{Run, entry_size, kind_at, gaps_zero, picture_zero, weight_zero, key_zero, ticket_zero, key_at, weight_at, ticket_at, whole_entry, of_form, picture_place, decoded, entry_at, printed, row_of, printing, performed, is_end, perform}

@@ -12,7 +12,8 @@ use lib.Dec.{eqb}
 use lib.ListN.{length, get_or, set, replicate, length-set}
 use lib.Seq.{get_or-set_same, get_or-set_other}
 use Rattle.rules.specs.declared.Record.{Record}
-use Rattle.rules.specs.Pass.{if◌then◌else◌, pass, any_of, lowest_not}
+use Rattle.std.specs.Prelude.{if◌then◌else◌}
+use Rattle.rules.specs.Pass.{pass, any_of, lowest_not}
 use Rattle.rules.specs.Table.{is_lined, line_of, is_on, is_used, lowest_unused}
 use Rattle.tracker.specs.Marks.{Unmarked, Marks, is_marked, lowest_unmarked}
 

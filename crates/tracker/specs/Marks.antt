@@ -1,7 +1,7 @@
 -- Marks of used lines: a byte a line, line n at n + 1, 1 where some record is on it.
-use Rattle.std.specs.Prelude.{ℕ, ◌+◌, ◌<◌, ◌≡◌, Bool, not, List, length, get_or, eqb}
+use Rattle.std.specs.Prelude.{ℕ, ◌+◌, ◌<◌, ◌≡◌, Bool, not, List, length, get_or, eqb, if◌then◌else◌}
 use Rattle.rules.specs.declared.Record.{Record}
-use Rattle.rules.specs.Pass.{if◌then◌else◌, lowest_not}
+use Rattle.rules.specs.Pass.{lowest_not}
 use Rattle.rules.specs.Table.{is_used}
 
 -- no mark yet

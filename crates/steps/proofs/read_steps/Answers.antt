@@ -1,7 +1,7 @@
 -- An aging keeps the room that the steps want and gives no ticket. Assumes nothing.
 use Rattle.std.proofs.Common.{rules, ℕ, ◌+◌, ◌≤◌, ◌<◌, Bool, true, false, sym, subst, arith}
 use Rattle.std.proofs.Math.Dec.{ltb}
-use Rattle.rules.specs.Pass.{if◌then◌else◌}
+use Rattle.std.specs.Prelude.{if◌then◌else◌}
 use Rattle.rules.specs.Table.{Memory, most_total, half_down, with_gauge}
 use Rattle.rules.specs.Steps.{aged, aged_gauge, decay_for}
 use Rattle.rules.specs.Calls.{serial_limit}

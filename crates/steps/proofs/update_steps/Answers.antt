@@ -4,7 +4,7 @@ use Rattle.std.proofs.Math.Dec.{ltb}
 use borrow.Author.Tests.{ltb-true}
 use Rattle.rules.specs.declared.Record.{Record}
 use Rattle.rules.specs.Bytes.{record_count}
-use Rattle.rules.specs.Pass.{if◌then◌else◌}
+use Rattle.std.specs.Prelude.{if◌then◌else◌}
 use Rattle.rules.specs.Table.{is_lined, line_of, empty_state, with_state, cooled, emptied, places, size, with_table, write}
 use Rattle.rules.proofs.Finds.{key_found}
 use Rattle.rules.proofs.Places.{IsRecord}
