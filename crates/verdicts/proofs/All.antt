@@ -1,10 +1,9 @@
 -- A test of every record that stops at the first failure, at any test: where one record fails, not all pass. Assumes nothing.
-use Prim.Native.Nat.{ℕ, ◌+◌, ◌<◌}
+use Prim.Native.Nat.{ℕ, ◌<◌}
 use mathlib.Core.Path.{◌≡◌, refl}
 use mathlib.Core.Bool.{Bool, true, false}
-use native.Mathlib.Numerals.{add-one}
 use Rattle.rules.specs.declared.Record.{Record}
-use Rattle.rules.specs.Pass.{pass, all_of}
+use Rattle.rules.specs.Pass.{all_of}
 use Rattle.rules.proofs.Searches.{clash, all_at}
 
 module _ (test : Record → Bool) (f : ℕ → Record) (i : ℕ) (r : Record) (read : r ≡ f i) where
@@ -14,7 +13,3 @@ module _ (test : Record → Bool) (f : ℕ → Record) (i : ℕ) (r : Record) (r
       go : (b : Bool) → all_of test f n ≡ b → b ≡ false
       go true all = clash (rw read (all_at test f n all i below)) fails
       go false all = refl
-
-  pub still_all : all_of test f i ≡ true → test r ≡ true → all_of test f (i + 1) ≡ true
-  unfolding all_of pass
-  still_all all passes = rw (add-one, all, ← read, passes)
