@@ -30,7 +30,6 @@ use Rattle.demand.proofs.Refusals.{refused_leaves_lent, small_number_leaves}
 use Rattle.demand.proofs.Peek.{ticket_put, peek_leaves_lent, peek_counts_nothing}
 use Rattle.demand.proofs.EveryList.{demand3, late_fills_refused, from_host_fresh}
 use Rattle.demand.proofs.Since.{given_since}
-use Rattle.demand.proofs.SampleList.{eight_bytes}
 
 -- ---- one clause missed
 -- class 7 and class 8 tracked, with one line and one free record; the rest of what the examples share
@@ -243,6 +242,9 @@ wide_filled = (call_outcome (fill largest (sample_picture 1) 1) (call_outcome (r
 
 abbrev wide_end : Memory
 wide_end = (call_outcome (update largest 65535) wide_filled).after
+
+abbrev eight_bytes : List ℕ
+eight_bytes = replicate 8 170
 
 wide_list : Follows cleared wide_events wide_end
 unfolding computing

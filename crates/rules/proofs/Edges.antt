@@ -20,7 +20,7 @@ use Rattle.rules.proofs.Computing.{computing}
 use Rattle.rules.proofs.Verdicts.{plain_accepted}
 
 -- a fresh memory of k records and c lines, with a total
-abbrev pub cleared : ℕ → ℕ → ℕ → Memory
+abbrev cleared : ℕ → ℕ → ℕ → Memory
 cleared k c total = lent (replicate (record_size * k) 0) (gauge_of total 0 0) (replicate (line_size * c) 0)
 
 -- two records, the first as given and the second free, and one line, at a serial

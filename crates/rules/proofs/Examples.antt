@@ -1,5 +1,5 @@
 -- Closed examples that hold the definitions where no law and none of the paper's examples would notice: each is run. Assumes nothing.
-use Prim.Native.Nat.{ℕ, zero, suc, ◌+◌, ◌^◌, ◌≤◌}
+use Prim.Native.Nat.{ℕ, zero, suc, ◌+◌, ◌*◌, ◌^◌, ◌≤◌}
 use mathlib.Core.Path.{◌≡◌, refl, ap}
 use mathlib.Core.Option.{none, some}
 use mathlib.Core.List.{List, [], ◌∷◌, ◌++◌}
@@ -13,7 +13,7 @@ use Rattle.rules.specs.declared.Levels.{Levels}
 use Rattle.rules.specs.declared.Entry.{Entry}
 use Rattle.rules.specs.declared.Verdict.{Verdict}
 use Rattle.rules.specs.declared.Verdict.TheVariants.{Accepted}
-use Rattle.rules.specs.Bytes.{get64, put_record, put_gauge}
+use Rattle.rules.specs.Bytes.{get64, record_size, put_record, line_size, put_gauge}
 use Rattle.rules.specs.Table.{Memory, with_lines, key_record, places, size}
 use Rattle.rules.specs.Steps.{Outcome, outcome, GivesOne}
 use Rattle.rules.specs.Calls.{OfSizes, host_lent, HostRead, read_lent, exported, exported_read, plain_verdict, age_outcome, read_outcome, update_outcome, fill_outcome, levelled_outcome, show_line}
@@ -23,7 +23,6 @@ use Rattle.rules.specs.Journal.{decimal, printed, printed_all, journal_run, entr
 use Rattle.rules.specs.Sample.{sample_entry, sample_journal, sample_start, sample_end, sample_picture, host_start, row, gauge_of, numbers, three_records}
 use Rattle.rules.proofs.Computing.{computing}
 use Rattle.rules.proofs.Peek.{peek_shows}
-use Rattle.rules.proofs.Edges.{cleared}
 
 -- ---- the sample
 -- what its journal leaves, byte for byte
@@ -253,6 +252,9 @@ unfolding computing
 gives_bite = (λ d. let e : 41 ≤ 40 = d.1 in omega arith, λ d. let e : 39 ≤ 38 = d.0 in omega arith)
 
 -- ---- lines and sizes
+abbrev cleared : ℕ → ℕ → Memory
+cleared k c = record { table = replicate (record_size * k) 0; gauge = gauge_of 0 0 0; lines = replicate (line_size * c) 0 }
+
 -- a line that is not there
 pub names_bite : (ticket : ℕ) → (¬ NamesLine 1 (Hit 1)) × (¬ NamesLine 1 (Wanted 1 ticket)) × (¬ NamesLine 1 (Wanted 0 (2 ^ 64)))
 names_bite ticket = (
@@ -279,7 +281,7 @@ tells_bite bytes = (
 )
 
 -- the least and the most
-pub least_and_most : OfSizes (cleared 1 0 0) 1 0 × OfSizes (cleared 1024 1023 0) 1024 1023
+pub least_and_most : OfSizes (cleared 1 0) 1 0 × OfSizes (cleared 1024 1023) 1024 1023
 least_and_most = (
   record { some_record = omega arith; records_few = omega arith; lines_fewer = omega arith; table = refl; lines = refl },
   record { some_record = omega arith; records_few = omega arith; lines_fewer = omega arith; table = refl; lines = refl },

@@ -9,11 +9,11 @@ use Rattle.replay.proofs.Pieces.{piece_numbers, first_piece, next_piece}
 use Rattle.replay.proofs.run_all.Goals as goal
 
 -- a turn is made after a full piece, while few are counted
-goes : (wrote : Bool) (got pieces : ℕ) → (wrote && eqb got piece_size && ltb pieces most_pieces) ≡ true →
-    (got ≡ piece_size) × (pieces < most_pieces)
-goes wrote got pieces e =
+goes : (wrote : Bool) (got pieces most : ℕ) → (wrote && eqb got piece_size && ltb pieces most) ≡ true →
+    (got ≡ piece_size) × (pieces < most)
+goes wrote got pieces most e =
     let h = both _ _ e in
-    (eqb-true got piece_size (both wrote _ h.0).1, ltb-true pieces most_pieces h.1)
+    (eqb-true got piece_size (both wrote _ h.0).1, ltb-true pieces most h.1)
 
 -- the loop stops at a full piece only where too many are counted
 stopped : (got pieces : ℕ) → got ≤ piece_size → pieces < most_pieces → (eqb got piece_size && ltb pieces most_pieces) ≡ false → got < piece_size
@@ -29,7 +29,7 @@ loop-t-init c = (piece_numbers (omega arith) c.run_piece-t.ensures, c.run_piece-
 pub loop-t-preserved : goal.loop-t-preserved
 loop-t-preserved c =
     let ran = c.run_piece-t-in-loop-t.ensures in
-    let (full, few) = goes c.loop-t.t.wrote c.loop-t.t.got c.loop-t.pieces c.loop-t-test.true in (
+    let (full, few) = goes c.loop-t.t.wrote c.loop-t.t.got c.loop-t.pieces _ c.loop-t-test.true in (
       omega (arith, piece_numbers (omega arith) ran),
       ran.within,
       λ m all. next_piece m (omega arith) full (c.loop-t.invariant.2 m all) ran,

@@ -11,7 +11,7 @@ pub heated-requires : goal.heated-requires
 unfolding places size
 heated-requires c =
     let found = key_found _ _ _ _ _ (sym c.key_record-found.ensures ∙ c.in-At.is) in
-    (c.requires.0, rw found.is (c.requires.1.heat _ found.inside))
+    (omega (arith, c.requires.0), rw found.is (c.requires.1.heat _ found.inside))
 
 pub put_record-requires : goal.put_record-requires
 put_record-requires c = (key_found _ _ _ _ _ (sym c.key_record-found.ensures ∙ c.in-At.is)).inside

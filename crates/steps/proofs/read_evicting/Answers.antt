@@ -17,7 +17,7 @@ track-after-requires c =
       | then-gauge-v w ↦ rw w.ceiling-is below
       | else-gauge-v w ↦ rw w.ceiling-is c.requires.1.ceiling
     ] in
-    (found.inside, c.requires.0, rw c.with_ceiling-raised.ensures most)
+    (found.inside, c.requires.0, rw c.with_ceiling-raised.ensures (omega arith))
 
 pub admission-requires : goal.admission-requires
 unfolding record_count size with_gauge places
@@ -33,6 +33,6 @@ admission-requires c =
     let is = c.track-after.ensures in
     let raised = c.with_ceiling-raised.ensures in
     let lines-there = lines_gauge _ c.with_ceiling-raised.result lines in
-    let heats-fit = heats_gauge _ c.with_ceiling-raised.result heats (rw raised most) in
+    let heats-fit = heats_gauge _ c.with_ceiling-raised.result heats (rw raised (omega arith)) in
     let fits = track_fits _ c.args.key _ _ lines-there heats-fit found.inside (omega arith) weight in
     (omega arith, rw is fits.0, rw is fits.1, serial_track _ _ _ _ _ is (rw raised serial))

@@ -30,4 +30,4 @@ read_counted-requires c =
     let (_, heats-after, lines-after, serial-after) =
     subst Roomy (sym c.decay_for-decayed.ensures) (room_made _ _ bytes (total, heats, lines, serial (omega arith))) in
     let grown = c.with_total-grown.ensures in
-    (weight, heats_gauge _ _ heats-after (rw grown heats-after.ceiling), lines_gauge _ _ lines-after, rw grown serial-after)
+    (weight, heats_gauge _ _ heats-after (rw grown (search rules)), lines_gauge _ _ lines-after, rw grown (search rules))
