@@ -1,5 +1,5 @@
 // What a Rattle caller does who lends a gauge by `&mut` or holds a reader: each function makes the struct in a local, lends it and
-// gives back what the calls left. Callers with plain values need no proof by hand.
+// gives back what the calls left.
 #![tactic(auto)]
 
 ghost use Rattle.std.specs.Prelude.{◌≡◌};
