@@ -3,38 +3,15 @@
 use Prim.Native.Nat.{ℕ, ◌+◌, ◌≤◌}
 use mathlib.Core.Path.{◌≡◌, refl}
 use mathlib.Core.Logic.{◌≢◌}
-use mathlib.Core.Bool.{Bool, true, false, ◌&&◌, ◌||◌}
-use native.Mathlib.Decide.{ℕ_discrete}
+use mathlib.Core.Bool.{Bool, true, false, ◌||◌}
 use native.Mathlib.Numerals.{add-one}
 use native.Mathlib.Omega.{arith}
-use borrow.Author.Tests.{eq-eqb, ne_eqb, le-ltb}
-use lib.Dec.{ltb, eqb}
+use borrow.Author.Tests.{eq-eqb, ne_eqb}
 use Rattle.rules.specs.declared.Record.{Record}
 use Rattle.rules.specs.Pass.{pass, best, best_of}
 use Rattle.rules.specs.Table.{is_free, is_unlined, free_record, colder, victim}
 use Rattle.tracker.specs.Replacing.{NoneYet, ColdestYet, serves}
 use Rattle.tracker.proofs.First.{not_here}
-
--- the two tests that a colder and a hotter record leave
-pub below_two : (s : ℕ) → ltb s 2 ≡ (eqb s 0 || (eqb s 1 && true))
-below_two s =
-    elim (ℕ_discrete s 0) [
-      | yes z ↦ rw z
-      | no z ↦ elim (ℕ_discrete s 1) [
-        | yes o ↦ rw o
-        | no o ↦ rw (le-ltb s 2 (omega arith), ne_eqb s 0 z, ne_eqb s 1 o)
-      ]
-    ]
-
-pub below_one : (s : ℕ) → ltb s 1 ≡ (eqb s 0 || (eqb s 1 && false))
-below_one s =
-    elim (ℕ_discrete s 0) [
-      | yes z ↦ rw z
-      | no z ↦ elim (ℕ_discrete s 1) [
-        | yes o ↦ rw o
-        | no o ↦ rw (le-ltb s 1 (omega arith), ne_eqb s 0 z, ne_eqb s 1 o)
-      ]
-    ]
 
 neither : (a b : Bool) → (a || b) ≡ false → (a ≡ false) × (b ≡ false)
 neither true b e = absurd (let z : ◌≡◌ {A = ℕ} 0 1 = cc in omega arith)
