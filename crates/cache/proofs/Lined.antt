@@ -9,8 +9,7 @@ use lib.ListN.{length}
 use Rattle.rules.specs.declared.Record.{Record}
 use Rattle.rules.specs.declared.Found.{Found}
 use Rattle.rules.specs.declared.Found.TheVariants.{Nowhere, At}
-use Rattle.rules.specs.declared.Lookup.{Lookup}
-use Rattle.rules.specs.declared.Lookup.TheVariants.{Untracked, Unlined, Lined}
+use Rattle.rules.specs.declared.Lookup.TheVariants.{Unlined, Lined}
 use Rattle.rules.specs.Bytes.{line_size, line_count}
 use Rattle.std.specs.Prelude.{if◌then◌else◌}
 use Rattle.rules.specs.Table.{Memory, is_lined, is_filled, line_of, key_record, lookup, looked_up, places, size, line_total}

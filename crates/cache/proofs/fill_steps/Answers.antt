@@ -1,5 +1,5 @@
 -- The line that was looked up lies inside the lines, and its record inside the table. Assumes nothing.
-use Rattle.std.proofs.Common.{sym, ◌∙◌, length-take, length-drop, rules, arith}
+use Rattle.std.proofs.Common.{sym, length-take, length-drop, rules, arith}
 use Rattle.rules.specs.Table.{places, size}
 use Rattle.cache.proofs.Lined.{lined_at}
 use Rattle.cache.proofs.fill_steps.Goals as goal
@@ -7,34 +7,34 @@ use Rattle.cache.proofs.fill_steps.Goals as goal
 pub overflow_mul-line : goal.overflow_mul-line
 unfolding places size
 overflow_mul-line c =
-    let h = lined_at _ c.args.key _ _ _ _ c.requires.1 (sym c.lookup-found.ensures.value ∙ c.in-Lined.is) in omega arith
+    let h = lined_at _ c.args.key _ _ _ _ c.requires.1 (sym c.in-Lined.ensures.value) in omega arith
 
 pub slice_bounds-copy_picture-count : goal.slice_bounds-copy_picture-count
 unfolding places size
 slice_bounds-copy_picture-count c =
-    let h = lined_at _ c.args.key _ _ _ _ c.requires.1 (sym c.lookup-found.ensures.value ∙ c.in-Lined.is) in omega arith
+    let h = lined_at _ c.args.key _ _ _ _ c.requires.1 (sym c.in-Lined.ensures.value) in omega arith
 
 pub slice_bounds-copy_picture-start : goal.slice_bounds-copy_picture-start
 unfolding places size
 slice_bounds-copy_picture-start c =
-    let h = lined_at _ c.args.key _ _ _ _ c.requires.1 (sym c.lookup-found.ensures.value ∙ c.in-Lined.is) in search rules
+    let h = lined_at _ c.args.key _ _ _ _ c.requires.1 (sym c.in-Lined.ensures.value) in search rules
 
 pub copy_picture-requires : goal.copy_picture-requires
 unfolding places size
 copy_picture-requires c =
-    let h = lined_at _ c.args.key _ _ _ _ c.requires.1 (sym c.lookup-found.ensures.value ∙ c.in-Lined.is) in
+    let h = lined_at _ c.args.key _ _ _ _ c.requires.1 (sym c.in-Lined.ensures.value) in
     simp (length-take, length-drop) (omega arith)
 
 pub record_at-r-requires : goal.record_at-r-requires
 unfolding places size
-record_at-r-requires c = (lined_at _ c.args.key _ _ _ _ c.requires.1 (sym c.lookup-found.ensures.value ∙ c.in-Lined.is)).inside
+record_at-r-requires c = (lined_at _ c.args.key _ _ _ _ c.requires.1 (sym c.in-Lined.ensures.value)).inside
 
 pub filled-requires : goal.filled-requires
 unfolding places size
 filled-requires c =
-    let h = lined_at _ c.args.key _ _ _ _ c.requires.1 (sym c.lookup-found.ensures.value ∙ c.in-Lined.is) in
+    let h = lined_at _ c.args.key _ _ _ _ c.requires.1 (sym c.in-Lined.ensures.value) in
     (rw c.record_at-r.ensures h.lined, rw (c.record_at-r.ensures, h.line) h.few)
 
 pub put_record-requires : goal.put_record-requires
 unfolding places size
-put_record-requires c = (lined_at _ c.args.key _ _ _ _ c.requires.1 (sym c.lookup-found.ensures.value ∙ c.in-Lined.is)).inside
+put_record-requires c = (lined_at _ c.args.key _ _ _ _ c.requires.1 (sym c.in-Lined.ensures.value)).inside

@@ -1,7 +1,7 @@
 -- The new ceiling is a heat or the old ceiling, so it has room for the weight. Assumes nothing.
-use Rattle.std.proofs.Common.{◌≤◌, sym, ◌∙◌, arith}
+use Rattle.std.proofs.Common.{sym, ◌∙◌, arith}
 use Rattle.rules.specs.Bytes.{record_count}
-use Rattle.rules.specs.Table.{most_total, places, size, with_gauge}
+use Rattle.rules.specs.Table.{places, size, with_gauge}
 use Rattle.rules.proofs.Finds.{victim_found}
 use Rattle.steps.proofs.Rooms.{lines_gauge, heats_gauge, track_fits, serial_track}
 use Rattle.steps.proofs.read_evicting.Goals as goal
@@ -12,12 +12,8 @@ unfolding places size
 track-after-requires c =
     let found = victim_found _ _ _ _ (sym c.requires.4 ∙ c.in-At.is) in
     let below = rw (← found.is) at (c.requires.1.heat _ found.inside) in
-    let most : c.if-gauge-v.ceiling ≤ most_total =
-    elim c.if-gauge-v.branch [
-      | then-gauge-v w ↦ rw w.ceiling-is below
-      | else-gauge-v w ↦ rw w.ceiling-is c.requires.1.ceiling
-    ] in
-    (found.inside, c.requires.0, rw c.with_ceiling-raised.ensures (omega arith))
+    let most = c.requires.1.ceiling in
+    (found.inside, c.requires.0, rw c.with_ceiling-raised.ensures (grind arith))
 
 pub admission-requires : goal.admission-requires
 unfolding record_count size with_gauge places
@@ -25,14 +21,10 @@ admission-requires c =
     let found = victim_found _ _ _ _ (sym c.requires.4 ∙ c.in-At.is) in
     let (weight, heats, lines, serial, _) = c.requires in
     let below = rw (← found.is) at (heats.heat _ found.inside) in
-    let most : c.if-gauge-v.ceiling ≤ most_total =
-    elim c.if-gauge-v.branch [
-      | then-gauge-v w ↦ rw w.ceiling-is below
-      | else-gauge-v w ↦ rw w.ceiling-is heats.ceiling
-    ] in
+    let most = heats.ceiling in
     let is = c.track-after.ensures in
     let raised = c.with_ceiling-raised.ensures in
     let lines-there = lines_gauge _ c.with_ceiling-raised.result lines in
-    let heats-fit = heats_gauge _ c.with_ceiling-raised.result heats (rw raised (omega arith)) in
+    let heats-fit = heats_gauge _ c.with_ceiling-raised.result heats (rw raised (grind arith)) in
     let fits = track_fits _ c.args.key _ _ lines-there heats-fit found.inside (omega arith) weight in
     (omega arith, rw is fits.0, rw is fits.1, serial_track _ _ _ _ _ is (rw raised serial))
