@@ -7,8 +7,8 @@ use native.Mathlib.Omega.{arith}
 use borrow.Author.Tests.{ltb-true}
 use lib.ListN.{length}
 use Rattle.rules.specs.declared.Record.{Record}
-use Rattle.rules.specs.declared.Found.{Found}
-use Rattle.rules.specs.declared.Found.TheVariants.{Nowhere, At}
+use Rattle.rules.specs.Pass.{Found}
+use Rattle.std.specs.Prelude.{Some, None}
 use Rattle.rules.specs.declared.Lookup.TheVariants.{Unlined, Lined}
 use Rattle.rules.specs.Bytes.{line_size, line_count}
 use Rattle.std.specs.Prelude.{if◌then◌else◌}
@@ -39,8 +39,8 @@ module _ (m : Memory) (key i n : ℕ) (full : Bool) (ticket : ℕ) (fits : Lines
   lined_at e = found (key_record key (places m) (size m)) refl e
     where
       found : (x : Found) → key_record key (places m) (size m) ≡ x → looked_up x ≡ Lined i n full ticket → IsOn m i n
-      found Nowhere k e = let z : ◌≡◌ {A = ℕ} 0 1 = cc in absurd (omega arith)
-      found (At j r) k e = line (is_lined r) refl e
+      found None k e = let z : ◌≡◌ {A = ℕ} 0 1 = cc in absurd (omega arith)
+      found (Some (j, r)) k e = line (is_lined r) refl e
         where
           line : (b : Bool) → is_lined r ≡ b → (if b then Lined j (line_of r) (is_filled r) r.ticket else Unlined) ≡ Lined i n full ticket → IsOn m i n
           line true l e =

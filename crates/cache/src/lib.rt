@@ -1,12 +1,13 @@
-// The calls of the cache, the gauge by value. Each refuses bad input by number and leaves everything as it was; otherwise it does
-// what the definitions of its outcome say, byte for byte.
+// The calls of the cache. Each refuses bad input with its cause and leaves everything as it was; otherwise it does what the
+// definitions of its outcome say, byte for byte. Table, gauge and lines are lent one by one, as a C host lends them: a fill may change
+// the lines, no other call may, and to show and to sum may change nothing.
 #![tactic(auto)]
 
 ghost use Rattle.std.specs.Prelude.{◌≡◌, ◌++◌, ◌≤◌, ◌<◌, ◌*◌, ◌^◌, length, drop, replicate};
 ghost use Rattle.rules.specs.Bytes.{record_at, record_count, line_size};
 ghost use Rattle.rules.specs.Pass.{sum_of};
 ghost use Rattle.rules.specs.Table.{most_total};
-ghost use Rattle.rules.specs.Calls.{most_records, lent, left, started, fresh_outcome, read_outcome, update_outcome, fill_outcome, age_outcome, show_line, levelled_outcome};
+ghost use Rattle.rules.specs.Calls.{most_records, lent, seen, fresh_outcome, read_outcome, update_outcome, fill_outcome, age_outcome, show_line, levelled_outcome};
 ghost use Rattle.rules.specs.Answers.{number_of, answer_said, completion_said, levels_said};
 ghost use Rattle.rules.specs.Numbers.{read_said, update_number, fill_number, age_number, fresh_said, levelled_said};
 ghost use Rattle.rules.specs.Steps.{outcome, fill_steps, level};
@@ -14,123 +15,114 @@ ghost use Rattle.lines.specs.Room.{LinesFit};
 ghost use Rattle.cache.specs.Room.{LevelsFit};
 ghost use Rattle.cache.specs.AsLent.{AsLent};
 
-use fields::{filled, fresh_gauge, level};
+use fields::{filled, level};
 use records::{LINE_SIZE, RECORD_SIZE, put_record, record_at};
-use rules::{
-    ALREADY_FILLED, Answer, Completion, Gauge, Levels, Lookup, NO_LINE, Reply, STALE_TICKET,
-    Started, Verdict, WRONG_SIZES,
-};
+use rules::{Answer, Gauge, Hub, Lookup, Refusal, View};
 use steps::{age_all, read_steps, update_steps};
 use tracker::lookup;
 use verdicts::{fill_verdict, plain_verdict, read_verdict, sizes_good, update_verdict};
 
 // ---- Fresh
 
-fn clear(table: &mut [u8])
-    ensures { table.new ≡ replicate (length table.old) 0 }
-{
-    let n = table.len();
-    let mut i = 0;
-    while i < n {
-        table[i] = 0;
-        i += 1;
-    }
-}
-
 // Starts a table: every record free, the gauge zero. The lines keep their bytes.
-#[tactic(auto, unfolding(rules::specs::Calls::fresh_outcome, rules::specs::Calls::unless, rules::specs::Calls::verdict, rules::specs::Calls::sizes_test, rules::specs::Table::fresh_memory))]
-pub fn fresh(table: &mut [u8], gauge: Gauge, lines: &[u8]) -> Started
-    ensures lines_after { started result table.new lines.now ≡ fresh_outcome (lent table.old gauge lines.now) }
-    ensures answer_value { completion_said result.answer ≡ fresh_said (lent table.old gauge lines.now) }
+#[tactic(auto, unfolding(rules::specs::Calls::fresh_outcome, rules::specs::Calls::unless, rules::specs::Calls::verdict, rules::specs::Calls::sizes_test, rules::specs::Table::fresh_memory, rules::specs::Table::fresh_gauge, rules::specs::Numbers::fresh_said, rules::specs::Answers::completion_said))]
+pub fn fresh(table: &mut [u8], gauge: &mut Gauge, lines: &[u8]) -> Result<(), Refusal>
+    ensures outcome { outcome result (lent table.new gauge.new lines.now) ≡ fresh_outcome (lent table.old gauge.old lines.now) }
+    ensures said { completion_said result ≡ fresh_said (lent table.old gauge.old lines.now) }
 {
     if !sizes_good(table, lines) {
-        return Started {
-            answer: Completion::Refused(WRONG_SIZES),
-            gauge,
-        };
+        return Err(Refusal::WrongSizes);
     }
-    clear(table);
-    Started {
-        answer: Completion::Done,
-        gauge: fresh_gauge(),
-    }
+    table.fill(0);
+    *gauge = Gauge::default();
+    Ok(())
 }
 
 // ---- Read, update and age
 
-// Counts weight pieces of a class, and answers where its picture is. A weight of 0 is a look: it changes nothing.
-#[tactic(auto, unfolding(rules::specs::Calls::read_outcome, rules::specs::Calls::unless, rules::specs::Answers::number_of))]
-pub fn read(table: &mut [u8], gauge: Gauge, lines: &[u8], key: u64, weight: u64) -> Reply
-    ensures lines_after { (left result table.new lines.now ≡ read_outcome (lent table.old gauge lines.now) key weight)
-        × (answer_said result.answer ≡ read_said (lent table.old gauge lines.now) key weight) }
-    ensures answer_bound { number_of result.answer < 2 ^ 64 }
+// What a call is lent, to look at.
+fn view<'a>(table: &'a [u8], gauge: Gauge, lines: &'a [u8]) -> View<'a>
+    ensures { seen result ≡ lent table.entry.now gauge lines.entry.now }
 {
-    let verdict = read_verdict(table, gauge, lines, weight);
-    match verdict {
-        Verdict::Refused(n) => Reply {
-            answer: Answer::Refused(n),
-            gauge,
-        },
-        Verdict::Accepted => read_steps(table, gauge, lines, key, weight),
+    View {
+        table,
+        gauge,
+        lines,
     }
+}
+
+// Counts weight pieces of a class, and answers where its picture is. A weight of 0 is a look: it changes nothing.
+#[tactic(auto, unfolding(rules::specs::Calls::read_outcome, rules::specs::Calls::unless, rules::specs::Answers::number_of, rules::specs::Answers::answer_said, rules::specs::Answers::values_of, rules::specs::Numbers::read_said, rules::specs::Numbers::refusal), using(rules::proofs::Refusals::number_few))]
+pub fn read(
+    table: &mut [u8],
+    gauge: &mut Gauge,
+    lines: &[u8],
+    key: u64,
+    weight: u64,
+) -> Result<Answer, Refusal>
+    ensures outcome { outcome result (lent table.new gauge.new lines.now) ≡ read_outcome (lent table.old gauge.old lines.now) key weight }
+    ensures said { answer_said result ≡ read_said (lent table.old gauge.old lines.now) key weight }
+    ensures answer_bound { number_of result < 2 ^ 64 }
+{
+    let before = *gauge;
+    read_verdict(view(table, before, lines), weight)?;
+    let mut counted = Hub {
+        table,
+        gauge: before,
+        lines,
+    };
+    let answer = read_steps(&mut counted, key, weight);
+    *gauge = counted.gauge;
+    Ok(answer)
 }
 
 // Cools a class whose picture has changed, and empties its line.
-#[tactic(auto, unfolding(rules::specs::Calls::update_outcome, rules::specs::Calls::unless, rules::specs::Answers::number_of))]
-pub fn update(table: &mut [u8], gauge: Gauge, lines: &[u8], key: u64, weight: u64) -> Reply
-    ensures lines_after { (left result table.new lines.now ≡ update_outcome (lent table.old gauge lines.now) key weight)
-        × (number_of result.answer ≡ update_number (lent table.old gauge lines.now) key weight) }
-    ensures answer_bound { number_of result.answer < 2 ^ 64 }
+#[tactic(auto, unfolding(rules::specs::Calls::update_outcome, rules::specs::Calls::unless, rules::specs::Answers::number_of, rules::specs::Numbers::update_number), using(rules::proofs::Refusals::number_few, rules::proofs::Verdicts::update_accepted, steps::proofs::Rooms::order_fits))]
+pub fn update(
+    table: &mut [u8],
+    gauge: &mut Gauge,
+    lines: &[u8],
+    key: u64,
+    weight: u64,
+) -> Result<Answer, Refusal>
+    ensures outcome { outcome result (lent table.new gauge.new lines.now) ≡ update_outcome (lent table.old gauge.old lines.now) key weight }
+    ensures said { number_of result ≡ update_number (lent table.old gauge.old lines.now) key weight }
+    ensures answer_bound { number_of result < 2 ^ 64 }
 {
-    let verdict = update_verdict(table, gauge, lines, weight);
-    match verdict {
-        Verdict::Refused(n) => Reply {
-            answer: Answer::Refused(n),
-            gauge,
-        },
-        Verdict::Accepted => update_steps(table, gauge, lines, key, weight),
-    }
+    let before = *gauge;
+    update_verdict(view(table, before, lines), weight)?;
+    let mut cooled = Hub {
+        table,
+        gauge: before,
+        lines,
+    };
+    let answer = update_steps(&mut cooled, key, weight);
+    *gauge = cooled.gauge;
+    Ok(answer)
 }
 
 // Halves every heat, total and ceiling downward and every slack upward.
-#[tactic(auto, unfolding(rules::specs::Calls::age_outcome, rules::specs::Calls::unless, rules::specs::Answers::number_of, rules::specs::Steps::age_steps))]
-pub fn age(table: &mut [u8], gauge: Gauge, lines: &[u8]) -> Reply
-    ensures lines_after { (left result table.new lines.now ≡ age_outcome (lent table.old gauge lines.now))
-        × (number_of result.answer ≡ age_number (lent table.old gauge lines.now)) }
-    ensures answer_bound { number_of result.answer < 2 ^ 64 }
+#[tactic(auto, unfolding(rules::specs::Calls::age_outcome, rules::specs::Calls::unless, rules::specs::Answers::number_of, rules::specs::Steps::age_steps, rules::specs::Answers::answer_number, rules::specs::Numbers::age_number), using(rules::proofs::Refusals::number_few))]
+pub fn age(table: &mut [u8], gauge: &mut Gauge, lines: &[u8]) -> Result<Answer, Refusal>
+    ensures outcome { outcome result (lent table.new gauge.new lines.now) ≡ age_outcome (lent table.old gauge.old lines.now) }
+    ensures said { number_of result ≡ age_number (lent table.old gauge.old lines.now) }
+    ensures answer_bound { number_of result < 2 ^ 64 }
 {
-    let verdict = plain_verdict(table, gauge, lines);
-    match verdict {
-        Verdict::Refused(n) => Reply {
-            answer: Answer::Refused(n),
-            gauge,
-        },
-        Verdict::Accepted => {
-            let after = age_all(table, gauge, lines);
-            Reply {
-                answer: Answer::Aged,
-                gauge: after,
-            }
-        }
-    }
+    let before = *gauge;
+    plain_verdict(view(table, before, lines))?;
+    let mut aged = Hub {
+        table,
+        gauge: before,
+        lines,
+    };
+    age_all(&mut aged);
+    *gauge = aged.gauge;
+    Ok(Answer::Aged)
 }
 
 // ---- Fill
 
-// Copies a picture to the front of a part of the lines.
-fn copy_picture(part: &mut [u8], picture: &[u8])
-    requires { length picture.now ≤ length part.old }
-    ensures { part.new ≡ picture.now ++ drop (length picture.now) part.old }
-{
-    let n = picture.len();
-    let mut i = 0;
-    while i < n {
-        part[i] = picture[i];
-        i += 1;
-    }
-}
-
-#[tactic(auto, unfolding(rules::specs::Bytes::put_line, rules::specs::Table::places, rules::specs::Table::size, rules::specs::Steps::fill_steps, rules::specs::Steps::store, rules::specs::Answers::number_of, rules::specs::Steps::store_in, rules::specs::Table::with_lines, rules::specs::Table::write, rules::specs::Table::with_table))]
+#[tactic(auto, unfolding(rules::specs::Bytes::put_line, rules::specs::Table::places, rules::specs::Table::size, rules::specs::Steps::fill_steps, rules::specs::Steps::store, rules::specs::Answers::number_of, rules::specs::Answers::answer_number, rules::specs::Refusals::number, rules::specs::Steps::store_in, rules::specs::Table::with_lines, rules::specs::Table::write, rules::specs::Table::with_table))]
 fn fill_steps(
     table: &mut [u8],
     gauge: Gauge,
@@ -138,35 +130,34 @@ fn fill_steps(
     key: u64,
     picture: &[u8],
     ticket: u64,
-) -> Answer
+) -> Result<Answer, Refusal>
     requires { (length picture.now ≡ line_size) × LinesFit (lent table.old gauge lines.old) }
-    ensures lines_after { outcome result (lent table.new gauge lines.new) ≡ fill_steps (lent table.old gauge lines.old) key picture.now ticket }
-    ensures result_bound { number_of result < 2 ^ 64 }
+    ensures outcome { outcome result (lent table.new gauge lines.new) ≡ fill_steps (lent table.old gauge lines.old) key picture.now ticket }
+    ensures answer_bound { number_of result < 2 ^ 64 }
 {
-    let found = lookup(table, key);
     let Lookup::Lined {
         place,
         line,
         filled: is_full,
         ticket: given,
-    } = found
+    } = lookup(table, key)
     else {
-        return Answer::Refused(NO_LINE);
+        return Err(Refusal::NoLine);
     };
     if is_full {
-        return Answer::Refused(ALREADY_FILLED);
+        return Err(Refusal::AlreadyFilled);
     }
     if ticket != given {
-        return Answer::Refused(STALE_TICKET);
+        return Err(Refusal::StaleTicket);
     }
-    copy_picture(&mut lines[LINE_SIZE * line..], picture);
+    lines[LINE_SIZE * line..LINE_SIZE * line + LINE_SIZE].copy_from_slice(picture);
     let r = record_at(table, place);
     put_record(table, place, filled(r));
-    Answer::Stored
+    Ok(Answer::Stored)
 }
 
 // Stores the picture of a class into its line, if it brings the ticket that the class was last given.
-#[tactic(auto, unfolding(rules::specs::Calls::fill_outcome, rules::specs::Calls::unless, rules::specs::Answers::number_of))]
+#[tactic(auto, unfolding(rules::specs::Calls::fill_outcome, rules::specs::Calls::unless, rules::specs::Answers::number_of, rules::specs::Numbers::fill_number), using(rules::proofs::Refusals::number_few, rules::proofs::Verdicts::fill_accepted, steps::proofs::Rooms::order_fits))]
 pub fn fill(
     table: &mut [u8],
     gauge: Gauge,
@@ -174,16 +165,13 @@ pub fn fill(
     key: u64,
     picture: &[u8],
     ticket: u64,
-) -> Answer
-    ensures lines_after { (outcome result (lent table.new gauge lines.new) ≡ fill_outcome (lent table.old gauge lines.old) key picture.now ticket)
-        × (number_of result ≡ fill_number (lent table.old gauge lines.old) key picture.now ticket) }
-    ensures result_bound { number_of result < 2 ^ 64 }
+) -> Result<Answer, Refusal>
+    ensures outcome { outcome result (lent table.new gauge lines.new) ≡ fill_outcome (lent table.old gauge lines.old) key picture.now ticket }
+    ensures said { number_of result ≡ fill_number (lent table.old gauge lines.old) key picture.now ticket }
+    ensures answer_bound { number_of result < 2 ^ 64 }
 {
-    let verdict = fill_verdict(table, gauge, lines, picture);
-    match verdict {
-        Verdict::Refused(n) => Answer::Refused(n),
-        Verdict::Accepted => fill_steps(table, gauge, lines, key, picture, ticket),
-    }
+    fill_verdict(view(table, gauge, lines), picture)?;
+    fill_steps(table, gauge, lines, key, picture, ticket)
 }
 
 // ---- Show
@@ -199,15 +187,13 @@ pub fn show<'a>(
 ) -> &'a [u8]
     ensures { AsLent result lines.entry stand_in.entry (show_line (lent table.now gauge lines.now) key) }
 {
-    let verdict = plain_verdict(table, gauge, lines);
-    let Verdict::Accepted = verdict else {
+    let Ok(()) = plain_verdict(view(table, gauge, lines)) else {
         return stand_in;
     };
     let Lookup::Lined {
-        place: _,
         line,
         filled: has_picture,
-        ticket: _,
+        ..
     } = lookup(table, key)
     else {
         return stand_in;
@@ -240,18 +226,11 @@ fn sum_levels(part: &[u8], ceiling: u64, n: usize) -> u64
 }
 
 // The sum, over all records, of the larger of heat and ceiling.
-#[tactic(auto, unfolding(rules::specs::Bytes::record_count, rules::specs::Table::places, rules::specs::Table::size, rules::specs::Calls::levelled_outcome, rules::specs::Calls::unless, rules::specs::Steps::levelled_sum))]
-pub fn levelled_sum(table: &[u8], gauge: Gauge, lines: &[u8]) -> Levels
-    ensures value { result ≡ levelled_outcome (lent table.now gauge lines.now) }
-    ensures result_value { levels_said result ≡ levelled_said (lent table.now gauge lines.now) }
+#[tactic(auto, unfolding(rules::specs::Bytes::record_count, rules::specs::Table::places, rules::specs::Table::size, rules::specs::Calls::levelled_outcome, rules::specs::Calls::unless, rules::specs::Steps::levelled_sum, rules::specs::Numbers::levelled_said, rules::specs::Answers::levels_said))]
+pub fn levelled_sum(table: &[u8], gauge: Gauge, lines: &[u8]) -> Result<u64, Refusal>
+    ensures outcome { result ≡ levelled_outcome (lent table.now gauge lines.now) }
+    ensures said { levels_said result ≡ levelled_said (lent table.now gauge lines.now) }
 {
-    let verdict = plain_verdict(table, gauge, lines);
-    match verdict {
-        Verdict::Refused(n) => Levels::Refused(n),
-        Verdict::Accepted => Levels::Sum(sum_levels(
-            table,
-            gauge.ceiling,
-            table.len() / RECORD_SIZE,
-        )),
-    }
+    plain_verdict(view(table, gauge, lines))?;
+    Ok(sum_levels(table, gauge.ceiling, table.len() / RECORD_SIZE))
 }

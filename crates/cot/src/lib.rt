@@ -3,12 +3,13 @@
 
 ghost use Rattle.std.specs.Prelude.{◌≡◌, ◌<◌, ◌^◌, length};
 ghost use Rattle.rules.specs.Bytes.{number_size, gauge_size, gauge_at, put_gauge};
-ghost use Rattle.rules.specs.Answers.{number_of, completion_number};
-ghost use Rattle.rules.specs.Steps.{outcome};
-ghost use Rattle.rules.specs.Calls.{host_lent, read_lent, put_ticket, exported, exported_read, read_outcome, update_outcome, fill_outcome, age_outcome, exported_fresh, exported_sum};
+ghost use Rattle.rules.specs.Answers.{Reply, number_of, completion_number};
+ghost use Rattle.rules.specs.Table.{Memory};
+ghost use Rattle.rules.specs.Steps.{Outcome, outcome};
+ghost use Rattle.rules.specs.Calls.{lent, host_lent, hosted, read_lent, put_ticket, exported, exported_read, read_outcome, update_outcome, fill_outcome, age_outcome, exported_fresh, exported_sum};
 
 use records::{get_u64, put_u64};
-use rules::{Answer, Completion, Gauge, Levels, WRONG_SIZES};
+use rules::{Answer, Gauge, Refusal};
 
 // The size of a host's gauge, in bytes.
 pub const GAUGE_SIZE: usize = 24;
@@ -43,64 +44,87 @@ fn put_gauge(bytes: &mut [u8], g: Gauge)
     put_u64(bytes, SERIAL_AT, g.serial);
 }
 
-// The number of an answer.
-#[tactic(auto, unfolding(rules::specs::Answers::number_of))]
-fn number_of(a: Answer) -> u64
-    requires { number_of a < 2 ^ 64 }
-    ensures { result ≡ number_of a }
+// The number of an answer, or of the cause of a refusal. (No `From`, since a line's number has to leave room for 4,000.)
+#[tactic(auto, unfolding(rules::specs::Answers::number_of, rules::specs::Answers::answer_number))]
+fn number_of(reply: Result<Answer, Refusal>) -> u64
+    requires { number_of reply < 2 ^ 64 }
+    ensures { result ≡ number_of reply }
 {
-    match a {
-        Answer::Aged => 100,
-        Answer::Changed => 101,
-        Answer::Unknown => 102,
-        Answer::Stored => 103,
-        Answer::Passed => 104,
-        Answer::Hit(n) => 2000 + n,
-        Answer::Wanted(n, _) => 4000 + n,
-        Answer::Refused(n) => n,
+    match reply {
+        Ok(Answer::Aged) => 100,
+        Ok(Answer::Changed) => 101,
+        Ok(Answer::Unknown) => 102,
+        Ok(Answer::Stored) => 103,
+        Ok(Answer::Passed) => 104,
+        Ok(Answer::Hit(n)) => 2000 + n,
+        Ok(Answer::Wanted(n, _)) => 4000 + n,
+        Err(cause) => cause.into(),
     }
 }
 
 // Puts the ticket of a wanted into lent bytes.
 #[tactic(auto, unfolding(rules::specs::Calls::put_ticket))]
-fn put_ticket(bytes: &mut [u8], a: Answer)
+fn put_ticket(bytes: &mut [u8], reply: Result<Answer, Refusal>)
     requires { length bytes.old ≡ number_size }
-    ensures { bytes.new ≡ put_ticket bytes.old a }
+    ensures { bytes.new ≡ put_ticket bytes.old reply }
 {
-    if let Answer::Wanted(_, ticket) = a {
+    if let Ok(Answer::Wanted(_, ticket)) = reply {
         put_u64(bytes, 0, ticket);
     }
 }
 
 // The number of a completion.
 #[tactic(auto, unfolding(rules::specs::Answers::completion_number))]
-fn completion_number(c: Completion) -> u64
-    ensures { result ≡ completion_number c }
+fn completion_number(completion: Result<(), Refusal>) -> u64
+    ensures { result ≡ completion_number completion }
 {
-    match c {
-        Completion::Done => DONE,
-        Completion::Refused(n) => n,
+    match completion {
+        Ok(()) => DONE,
+        Err(cause) => u64::from(cause),
     }
+}
+
+// Makes a call of the cache on a host's memory: refuses a gauge of another size, and puts the gauge back as the call leaves it.
+#[tactic(auto, unfolding(rules::specs::Calls::hosted, rules::specs::Calls::gauge_test, rules::specs::Calls::verdict, rules::specs::Calls::unless, rules::specs::Calls::held, rules::specs::Calls::stored, rules::specs::Answers::number_of), using(rules::proofs::Refusals::number_few))]
+fn hosted<F: FnOnce(&mut [u8], &mut Gauge, &[u8]) -> Result<Answer, Refusal>>(
+    table: &mut [u8],
+    gauge: &mut [u8],
+    lines: &[u8],
+    call: F,
+) -> Result<Answer, Refusal>
+    requires callable { F.IsAlwaysCallable call }
+    requires bounded { (t g l r t' g' : _) → F.post call t g l r t' g' → number_of r < 2 ^ 64 }
+    ensures outcome { (m : Memory → Outcome Reply Memory) → ((t g l r t' g' : _) → F.post call t g l r t' g' → outcome r (lent t'.now g'.now l.now) ≡ m (lent t.now g.now l.now)) → outcome result (host_lent table.new gauge.new lines.now) ≡ hosted m (host_lent table.old gauge.old lines.now) }
+    ensures answer_bound { number_of result < 2 ^ 64 }
+{
+    if gauge.len() != GAUGE_SIZE {
+        return Err(Refusal::WrongSizes);
+    }
+    let mut own = gauge_at(gauge);
+    let reply = call(table, &mut own, lines);
+    put_gauge(gauge, own);
+    reply
 }
 
 // Starts a table: every record free, the gauge zero. The lines keep their bytes.
 #[unsafe(no_mangle)]
+#[tactic(auto, unfolding(rules::specs::Calls::exported_fresh, rules::specs::Calls::gauge_test, rules::specs::Calls::verdict, rules::specs::Calls::unless, rules::specs::Calls::held, rules::specs::Calls::stored))]
 pub extern "C" fn cot_fresh(table: &mut [u8], gauge: &mut [u8], lines: &[u8]) -> u64
     ensures { outcome result (host_lent table.new gauge.new lines.now) ≡ exported_fresh (host_lent table.old gauge.old lines.now) }
 {
     if gauge.len() != GAUGE_SIZE {
-        return WRONG_SIZES;
+        return Refusal::WrongSizes.into();
     }
-    let started = cache::fresh(table, gauge_at(gauge), lines);
-    put_gauge(gauge, started.gauge);
-    let answer = started.answer;
-    completion_number(answer)
+    let mut fresh = gauge_at(gauge);
+    let completion = cache::fresh(table, &mut fresh, lines);
+    put_gauge(gauge, fresh);
+    completion_number(completion)
 }
 
 // Counts weight pieces of a class, and answers where its picture is. A weight of 0 is a look: it changes nothing. The 8 lent bytes get
 // the ticket of a wanted.
 #[unsafe(no_mangle)]
-#[tactic(auto, unfolding(rules::specs::Answers::number_of, rules::specs::Calls::put_ticket))]
+#[tactic(auto, unfolding(rules::specs::Calls::exported_read, rules::specs::Calls::hosted_read, rules::specs::Calls::number_test, rules::specs::Calls::verdict, rules::specs::Calls::unless, rules::specs::Answers::number_of))]
 pub extern "C" fn cot_read(
     table: &mut [u8],
     gauge: &mut [u8],
@@ -112,20 +136,18 @@ pub extern "C" fn cot_read(
     ensures { outcome result (read_lent (host_lent table.new gauge.new lines.now) ticket.new) ≡ exported_read (λ m. read_outcome m key weight) (read_lent (host_lent table.old gauge.old lines.now) ticket.old) }
 {
     if ticket.len() != NUMBER_SIZE {
-        return WRONG_SIZES;
+        return Refusal::WrongSizes.into();
     }
-    if gauge.len() != GAUGE_SIZE {
-        return WRONG_SIZES;
-    }
-    let reply = cache::read(table, gauge_at(gauge), lines, key, weight);
-    put_gauge(gauge, reply.gauge);
-    let answer = reply.answer;
-    put_ticket(ticket, answer);
-    number_of(answer)
+    let reply = hosted(table, gauge, lines, |table, gauge, lines| {
+        cache::read(table, gauge, lines, key, weight)
+    });
+    put_ticket(ticket, reply);
+    number_of(reply)
 }
 
 // Cools a class whose picture has changed, and empties its line.
 #[unsafe(no_mangle)]
+#[tactic(auto, unfolding(rules::specs::Calls::exported))]
 pub extern "C" fn cot_update(
     table: &mut [u8],
     gauge: &mut [u8],
@@ -135,17 +157,14 @@ pub extern "C" fn cot_update(
 ) -> u64
     ensures { outcome result (host_lent table.new gauge.new lines.now) ≡ exported (λ m. update_outcome m key weight) (host_lent table.old gauge.old lines.now) }
 {
-    if gauge.len() != GAUGE_SIZE {
-        return WRONG_SIZES;
-    }
-    let updated = cache::update(table, gauge_at(gauge), lines, key, weight);
-    put_gauge(gauge, updated.gauge);
-    let answer = updated.answer;
-    number_of(answer)
+    number_of(hosted(table, gauge, lines, |table, gauge, lines| {
+        cache::update(table, gauge, lines, key, weight)
+    }))
 }
 
 // Stores the picture of a class into its line, if it brings the ticket that the class was last given.
 #[unsafe(no_mangle)]
+#[tactic(auto, unfolding(rules::specs::Calls::exported, rules::specs::Calls::hosted, rules::specs::Calls::gauge_test, rules::specs::Calls::verdict, rules::specs::Calls::unless, rules::specs::Calls::held, rules::specs::Calls::stored, rules::specs::Answers::number_of), using(rules::proofs::Places::gauge_kept))]
 pub extern "C" fn cot_fill(
     table: &mut [u8],
     gauge: &[u8],
@@ -157,43 +176,37 @@ pub extern "C" fn cot_fill(
     ensures { outcome result (host_lent table.new gauge.now lines.new) ≡ exported (λ m. fill_outcome m key picture.now ticket) (host_lent table.old gauge.now lines.old) }
 {
     if gauge.len() != GAUGE_SIZE {
-        return WRONG_SIZES;
+        return Refusal::WrongSizes.into();
     }
     number_of(cache::fill(table, gauge_at(gauge), lines, key, picture, ticket))
 }
 
 // Halves every heat, total and ceiling downward and every slack upward.
 #[unsafe(no_mangle)]
+#[tactic(auto, unfolding(rules::specs::Calls::exported))]
 pub extern "C" fn cot_age(table: &mut [u8], gauge: &mut [u8], lines: &[u8]) -> u64
     ensures { outcome result (host_lent table.new gauge.new lines.now) ≡ exported age_outcome (host_lent table.old gauge.old lines.now) }
 {
-    if gauge.len() != GAUGE_SIZE {
-        return WRONG_SIZES;
-    }
-    let aged = cache::age(table, gauge_at(gauge), lines);
-    put_gauge(gauge, aged.gauge);
-    let answer = aged.answer;
-    number_of(answer)
+    number_of(hosted(table, gauge, lines, cache::age))
 }
 
 // Puts the sum, over all records, of the larger of heat and ceiling into 8 lent bytes.
 #[unsafe(no_mangle)]
-#[tactic(auto, unfolding(rules::specs::Calls::put_levels))]
+#[tactic(auto, unfolding(rules::specs::Calls::exported_sum, rules::specs::Calls::put_levels, rules::specs::Calls::gauge_test, rules::specs::Calls::number_test, rules::specs::Calls::verdict, rules::specs::Calls::unless, rules::specs::Calls::held))]
 pub extern "C" fn cot_levelled_sum(table: &[u8], gauge: &[u8], lines: &[u8], sum: &mut [u8]) -> u64
     ensures { outcome result sum.new ≡ exported_sum (host_lent table.now gauge.now lines.now) sum.old }
 {
     if gauge.len() != GAUGE_SIZE {
-        return WRONG_SIZES;
+        return Refusal::WrongSizes.into();
     }
     if sum.len() != NUMBER_SIZE {
-        return WRONG_SIZES;
+        return Refusal::WrongSizes.into();
     }
-    let levels = cache::levelled_sum(table, gauge_at(gauge), lines);
-    match levels {
-        Levels::Refused(n) => n,
-        Levels::Sum(s) => {
-            put_u64(sum, 0, s);
+    match cache::levelled_sum(table, gauge_at(gauge), lines) {
+        Ok(levels) => {
+            put_u64(sum, 0, levels);
             DONE
         }
+        Err(refusal) => refusal.into(),
     }
 }

@@ -8,9 +8,9 @@ use native.Mathlib.Nat.{le_trans, le-max_right, mul-le-mul_left}
 use native.Mathlib.Omega.{arith}
 use borrow.Author.Tests.{ltb-true, eqb-true}
 use lib.ListN.{length, replicate}
-use Rattle.rules.specs.declared.Completion.TheVariants.{Done}
-use Rattle.rules.specs.declared.Verdict.{Verdict}
-use Rattle.rules.specs.declared.Verdict.TheVariants.{Accepted}
+use Rattle.std.specs.Prelude.{Ok}
+use Rattle.rules.specs.Answers.{Completion}
+use Rattle.std.specs.Prelude.{Ok, Err}
 use Rattle.rules.specs.Bytes.{record_size, gauge_size}
 use Rattle.std.specs.Prelude.{if◌then◌else◌}
 use Rattle.rules.specs.Table.{Memory, is_tracked, is_unlined, is_lined, filled_state, places, size, line_total}
@@ -138,7 +138,7 @@ list_holds t stale h (own c lent same fits rest) = list_holds _ _ (own_holds c l
 list_holds t stale h (elsewhere c lent e rest) = list_holds t stale h rest
 
 -- what holds after it
-after_list : (m end : Memory) (es : List Event) → (fresh_outcome m).answer ≡ Done → Follows (fresh_outcome m).after es end →
+after_list : (m end : Memory) (es : List Event) → (fresh_outcome m).answer ≡ Ok tt → Follows (fresh_outcome m).after es end →
     Holds end (replay (unheard (size m)) (told es)) (stale_up_to es)
 unfolding stale_up_to
 after_list m end es done follows = list_holds (unheard (size m)) (λ key. 0) (fresh_holds m done) follows
@@ -217,6 +217,6 @@ pub late_fills_refused : AfterEveryList LateFillsRefused
 unfolding fill_outcome unless is_refused
 late_fills_refused m end es done follows key picture ticket late = go (fill_verdict end picture)
   where
-    go : (v : Verdict) → is_refused (unless v (leaving end) (fill_steps end key picture ticket)).answer ≡ true
-    go Accepted = late_fill_refused end _ (stale_up_to es) key picture ticket (after_list m end es done follows) late
-    go (Verdict.Refused n) = refl
+    go : (v : Completion) → is_refused (unless v (leaving end) (fill_steps end key picture ticket)).answer ≡ true
+    go (Ok u) = late_fill_refused end _ (stale_up_to es) key picture ticket (after_list m end es done follows) late
+    go (Err n) = refl

@@ -10,7 +10,7 @@ use lib.ListN.{get_or, replicate}
 use lib.Dec.{eqb}
 use borrow.Author.Tests.{eq-eqb}
 use Rattle.rules.specs.declared.Record.{Record}
-use Rattle.rules.specs.declared.Found.TheVariants.{Nowhere}
+use Rattle.std.specs.Prelude.{None}
 use Rattle.rules.specs.Bytes.{get64, line_count}
 use Rattle.std.specs.Prelude.{if◌then◌else◌}
 use Rattle.rules.specs.Table.{Memory, key_record, places, size, with_lines}
@@ -90,7 +90,7 @@ not_above_bites = (
 )
 
 -- any class, 0 too
-pub untracked_bites : (key : ℕ) → key_record key (places tracked_two) (size tracked_two) ≡ Nowhere → ¬ Demand3 tracked_two (truth 20 (at key 3 (heats 4 3 0))) unstale
+pub untracked_bites : (key : ℕ) → key_record key (places tracked_two) (size tracked_two) ≡ None → ¬ Demand3 tracked_two (truth 20 (at key 3 (heats 4 3 0))) unstale
 unfolding computing
 untracked_bites key missing d = let e : at key 3 (heats 4 3 0) key ≤ 2 = d.untracked key missing in omega (arith, at_same key 3 (heats 4 3 0))
 

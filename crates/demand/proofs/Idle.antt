@@ -4,7 +4,7 @@ use Prim.Native.Nat.{ℕ, ◌*◌, ◌≤◌}
 use mathlib.Core.Path.{◌≡◌, refl, ap}
 use mathlib.Core.List.{[], ◌∷◌}
 use native.Mathlib.Omega.{arith}
-use Rattle.rules.specs.declared.Answer.{Answer}
+use Rattle.rules.specs.Answers.{Reply}
 use Rattle.rules.specs.Table.{Memory, places}
 use Rattle.rules.specs.Answers.{number_of}
 use Rattle.rules.specs.Steps.{Outcome}
@@ -16,16 +16,16 @@ use Rattle.demand.proofs.Computing.{computing}
 use Rattle.demand.proofs.EveryList.{demand3}
 
 -- ---- the contracts
-abbrev answered : Outcome Answer Memory → ℕ
+abbrev answered : Outcome Reply Memory → ℕ
 answered o = number_of o.answer
 
-abbrev total_after : Outcome Answer Memory → ℕ
+abbrev total_after : Outcome Reply Memory → ℕ
 total_after o = o.after.gauge.total
 
-abbrev ceiling_after : Outcome Answer Memory → ℕ
+abbrev ceiling_after : Outcome Reply Memory → ℕ
 ceiling_after o = o.after.gauge.ceiling
 
-abbrev first_heat_after : Outcome Answer Memory → ℕ
+abbrev first_heat_after : Outcome Reply Memory → ℕ
 first_heat_after o = (places o.after 0).heat
 
 -- after the sample's first read, class 5 is tracked and on an empty line

@@ -2,7 +2,7 @@
 use Prim.Native.Nat.{ℕ}
 use mathlib.Core.Path.{◌≡◌, refl, ap}
 use mathlib.Core.Bool.{Bool, true, false}
-use Rattle.rules.specs.declared.Answer.{Answer}
+use Rattle.rules.specs.Answers.{Reply}
 use Rattle.rules.specs.Calls.{read_outcome, HostMemory, read_lent, put_ticket, held, stored}
 use Rattle.rules.specs.Replay.{Truth, read_truth}
 use Rattle.rules.proofs.Places.{gauge_kept}
@@ -12,7 +12,7 @@ use Rattle.demand.specs.List.{read, call_outcome, host_made, Lent, rattle, host,
 use Rattle.demand.proofs.Refusals.{HoldsBytes}
 
 -- the bytes that a host lends for a ticket get that of a wanted
-unfoldable pub ticket_put : Answer → Lent → Lent
+unfoldable pub ticket_put : Reply → Lent → Lent
 ticket_put a (rattle m) = rattle m
 ticket_put a (host h) = host (read_lent h.memory (put_ticket h.ticket a))
 

@@ -12,7 +12,7 @@ use Rattle.rules.specs.Bytes.{gauge_size}
 use Rattle.rules.specs.Calls.{HostMemory, HostRead, read_lent, held, stored}
 use Rattle.rules.proofs.Words.{IsBytes}
 use Rattle.rules.proofs.Places.{gauge_kept}
-use Rattle.rules.proofs.Refusals.{read_leaves, update_leaves, fill_leaves, age_leaves, hosted_leaves, read_hosted_leaves, read_told, update_told, fill_told, age_told, hosted_told, read_hosted_told}
+use Rattle.rules.proofs.Refusals.{read_leaves, update_leaves, fill_leaves, age_leaves, hosted_leaves, read_hosted_leaves, every_told}
 use Rattle.demand.specs.List.{read, update, fill, age, Call, call_outcome, hosted_else, host_made, Lent, rattle, host, made}
 
 -- ---- a Rattle caller's
@@ -22,13 +22,6 @@ refused_leaves_all (read key w) m = read_leaves m key w
 refused_leaves_all (update key w) m = update_leaves m key w
 refused_leaves_all (fill key picture ticket) m = fill_leaves m key picture ticket
 refused_leaves_all age m = age_leaves m
-
-call_told : (c : Call) (m : Memory) → Told (call_outcome c m).answer
-unfolding call_outcome
-call_told (read key w) m = read_told m key w
-call_told (update key w) m = update_told m key w
-call_told (fill key picture ticket) m = fill_told m key picture ticket
-call_told age m = age_told m
 
 -- ---- a C host's
 -- what is seen of its memory stays, if putting the gauge back as it was read leaves it, and so do a ticket's bytes
@@ -42,13 +35,6 @@ host_leaves seen (update key w) h put e = (hosted_leaves _ h.memory seen (refuse
 host_leaves seen (fill key picture ticket) h put e =
     (hosted_leaves _ h.memory seen (refused_leaves_all (fill key picture ticket) (held h.memory)) put e, refl)
 host_leaves seen age h put e = (hosted_leaves _ h.memory seen (refused_leaves_all age (held h.memory)) put e, refl)
-
-host_told : (c : Call) (h : HostRead) → Told (host_made c h).answer
-unfolding host_made hosted_else
-host_told (read key w) h = read_hosted_told _ h (call_told (read key w) (held h.memory))
-host_told (update key w) h = hosted_told _ h.memory (call_told (update key w) (held h.memory))
-host_told (fill key picture ticket) h = hosted_told _ h.memory (call_told (fill key picture ticket) (held h.memory))
-host_told age h = hosted_told _ h.memory (call_told age (held h.memory))
 
 -- ---- anybody's
 -- a host's gauge is bytes
@@ -64,9 +50,7 @@ refused_leaves_lent c (host h) bytes e =
     ap (λ (m : HostMemory). host (read_lent m (host_made c h).after.ticket)) memory ∙ ap (λ (t : List ℕ). host (read_lent h.memory t)) ticket
 
 pub told_by_number : (c : Call) (lent : Lent) → Told (made c lent).answer
-unfolding made
-told_by_number c (rattle m) = call_told c m
-told_by_number c (host h) = host_told c h
+told_by_number c lent = every_told (made c lent).answer
 
 -- a host that is told a number below 100 finds all that it lent as it was
 pub small_number_leaves : (c : Call) (h : HostRead) → IsBytes h.memory.gauge → number_of (host_made c h).answer < 100 →

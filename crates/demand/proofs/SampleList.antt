@@ -5,7 +5,7 @@ use mathlib.Core.Path.{◌≡◌, refl}
 use mathlib.Core.List.{List, ◌∷◌}
 use native.Mathlib.Omega.{arith}
 use lib.ListN.{replicate}
-use Rattle.rules.specs.declared.Completion.TheVariants.{Done}
+use Rattle.std.specs.Prelude.{Ok}
 use Rattle.rules.specs.Table.{Memory, size}
 use Rattle.rules.specs.Answers.{is_refused}
 use Rattle.rules.specs.Calls.{read_lent, fresh_outcome}
@@ -45,7 +45,7 @@ sample_follows =
     (by_rattle (read 9 1) (omega arith)
     nothing)))))))))))))
 
-fresh_done : (fresh_outcome sample_lent).answer ≡ Done
+fresh_done : (fresh_outcome sample_lent).answer ≡ Ok tt
 unfolding computing
 fresh_done = refl
 

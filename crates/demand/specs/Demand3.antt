@@ -1,9 +1,8 @@
 -- What demand 3 claims of the memory that a list leaves, the replay of the list and its events, and the other claims after such a list.
 use Rattle.std.specs.Prelude.{ℕ, ◌+◌, ◌*◌, ◌≤◌, ◌<◌, ◌≡◌, List, ◌∷◌, ◌++◌, true, false, ◌≢◌}
 use Rattle.std.proofs.Math.Option.{some}
-use Rattle.rules.specs.declared.Completion.TheVariants.{Done}
-use Rattle.rules.specs.declared.Verdict.TheVariants.{Accepted}
-use Rattle.rules.specs.declared.Found.TheVariants.{Nowhere}
+use Rattle.std.specs.Prelude.{Ok}
+use Rattle.std.specs.Prelude.{None}
 use Rattle.rules.specs.Bytes.{line_at}
 use Rattle.rules.specs.Table.{Memory, is_tracked, is_unlined, is_lined, filled_state, key_record, places, size}
 use Rattle.rules.specs.Answers.{is_refused}
@@ -21,7 +20,7 @@ pub record Demand3 (m : Memory) (truth : Truth) (es : List Event) : Type 0 where
   pub not_above : (i : ℕ) → i < size m → is_tracked (places m i) ≡ true →
       (places m i).heat ≤ truth.heat (places m i).key + (places m i).slack
   -- | the ceiling bounds the untracked: a class not in the table is an untracked key
-  pub untracked : (key : ℕ) → key_record key (places m) (size m) ≡ Nowhere → truth.heat key ≤ m.gauge.ceiling
+  pub untracked : (key : ℕ) → key_record key (places m) (size m) ≡ None → truth.heat key ≤ m.gauge.ceiling
   -- | Its records are K
   pub few : truth.fewest ≡ size m
   -- | records × ceiling ≤ total
@@ -44,12 +43,12 @@ LevelledBound m truth es = levelled_sum m ≤ m.gauge.total
 
 -- The tests of sizes and order pass, so that no later call is refused with 3.
 abbrev pub StaysInOrder : Memory → Truth → List Event → Type 0
-StaysInOrder m truth es = plain_verdict m ≡ Accepted
+StaysInOrder m truth es = plain_verdict m ≡ Ok tt
 
 -- Space-Saving's own guarantee: a class with more true heat than a K-th of the total is in the table.
 abbrev pub HeavyHittersTracked : Memory → Truth → List Event → Type 0
 HeavyHittersTracked m truth es =
-    (key : ℕ) → m.gauge.total < size m * truth.heat key → key_record key (places m) (size m) ≢ Nowhere
+    (key : ℕ) → m.gauge.total < size m * truth.heat key → key_record key (places m) (size m) ≢ None
 
 -- | whose ticket was given by the last accepted update of its class, if any, or after it
 -- A call gives the tickets over the serial that it found, up to the one that the next call finds. This one gave the ticket; it was
@@ -77,5 +76,5 @@ LateFillsRefused m truth es =
 -- Fresh accepts every K from 1 to 1,024 and every C below K (`fresh_accepts`), so m stands for all that a list can start with.
 abbrev pub AfterEveryList : (Memory → Truth → List Event → Type 0) → Type 0
 AfterEveryList Claim =
-    (m end : Memory) (es : List Event) → (fresh_outcome m).answer ≡ Done → Follows (fresh_outcome m).after es end →
+    (m end : Memory) (es : List Event) → (fresh_outcome m).answer ≡ Ok tt → Follows (fresh_outcome m).after es end →
     Claim end (replay (unheard (size m)) (told es)) es

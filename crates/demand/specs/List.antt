@@ -1,7 +1,7 @@
 -- The list of demand 3: its calls, what they are lent, how one follows another, what the replay makes of them, and which tickets their
 -- updates leave stale.
 use Rattle.std.specs.Prelude.{ℕ, ◌<◌, ◌^◌, ◌≡◌, List, [], ◌∷◌, Bool, true, false, ◌||◌, eqb, if◌then◌else◌}
-use Rattle.rules.specs.declared.Answer.{Answer}
+use Rattle.rules.specs.Answers.{Reply}
 use Rattle.rules.specs.Table.{Memory}
 use Rattle.rules.specs.Answers.{is_refused}
 use Rattle.rules.specs.Steps.{Outcome, outcome}
@@ -16,7 +16,7 @@ pub data Call : Type 0 where
   fill : (key : ℕ) (picture : List ℕ) (ticket : ℕ) → Call
   age : Call
 
-unfoldable pub call_outcome : Call → Memory → Outcome Answer Memory
+unfoldable pub call_outcome : Call → Memory → Outcome Reply Memory
 call_outcome (read key w) m = read_outcome m key w
 call_outcome (update key w) m = update_outcome m key w
 call_outcome (fill key picture ticket) m = fill_outcome m key picture ticket
@@ -39,16 +39,16 @@ memory_of (rattle m) = m
 memory_of (host h) = held h.memory
 
 -- no other call is lent a ticket's bytes
-unfoldable pub hosted_else : (Memory → Outcome Answer Memory) → HostRead → Outcome Answer HostRead
+unfoldable pub hosted_else : (Memory → Outcome Reply Memory) → HostRead → Outcome Reply HostRead
 hosted_else call h = outcome (hosted call h.memory).answer (read_lent (hosted call h.memory).after h.ticket)
 
-unfoldable pub host_made : Call → HostRead → Outcome Answer HostRead
+unfoldable pub host_made : Call → HostRead → Outcome Reply HostRead
 host_made (read key w) = hosted_read (call_outcome (read key w))
 host_made (update key w) = hosted_else (call_outcome (update key w))
 host_made (fill key picture ticket) = hosted_else (call_outcome (fill key picture ticket))
 host_made age = hosted_else (call_outcome age)
 
-unfoldable pub made : Call → Lent → Outcome Answer Lent
+unfoldable pub made : Call → Lent → Outcome Reply Lent
 made c (rattle m) = outcome (call_outcome c m).answer (rattle (call_outcome c m).after)
 made c (host h) = outcome (host_made c h).answer (host (host_made c h).after)
 

@@ -1,254 +1,215 @@
 // Runs what a Rattle caller can call and nothing else here runs, and prints what each call gives: fresh on memory that is not zero,
-// show, the levelled sum, the calls that are lent the gauge by `&mut`, looks among them, a late fill, a serial that is spent, the
+// show, the levelled sum, the calls on a gauge that the caller holds, looks among them, a late fill, a serial that is spent, the
 // journal's reader, and a run whose rows have no room.
 #![tactic(auto)]
 
-use fields::fresh_gauge;
-use journal::read_at;
-use lending::first_two;
-use rules::{Answer, Completion, Decoded, Entry, Gauge, Levels, Reply, SERIAL_LIMIT};
+use journal::{decode, first_two};
+use rules::{Answer, Entry, Gauge, Refusal, SERIAL_LIMIT};
+use std::io::Write;
+use std::{fmt, io};
 
-// ---- printing
+// ---- what is printed of a value
 
-// The descriptor of standard output.
-const OUTPUT: i32 = 1;
+#[derive(Clone, Copy)]
+struct Told(Result<Answer, Refusal>);
 
-fn say(words: &[u8]) {
-    io::write_all(OUTPUT, words);
-}
-
-fn say_number(n: u64) {
-    say(b" ");
-    io::print_decimal(OUTPUT, n);
-}
-
-fn say_byte(byte: u8) {
-    say_number(byte as u64);
-}
-
-fn say_bytes(bytes: &[u8]) {
-    let n = bytes.len();
-    let mut i = 0;
-    while i < n {
-        say_byte(bytes[i]);
-        i += 1;
-    }
-    say(b"\n");
-}
-
-fn say_gauge(gauge: Gauge) {
-    say(b"; gauge");
-    say_number(gauge.total);
-    say_number(gauge.ceiling);
-    say_number(gauge.serial);
-    say(b"\n");
-}
-
-fn say_answer(answer: Answer) {
-    match answer {
-        Answer::Aged => say(b"aged"),
-        Answer::Changed => say(b"changed"),
-        Answer::Unknown => say(b"unknown"),
-        Answer::Stored => say(b"stored"),
-        Answer::Passed => say(b"passed"),
-        Answer::Hit(n) => {
-            say(b"hit");
-            say_number(n);
-        }
-        Answer::Wanted(n, ticket) => {
-            say(b"wanted");
-            say_number(n);
-            say_number(ticket);
-        }
-        Answer::Refused(n) => {
-            say(b"refused");
-            say_number(n);
+impl fmt::Display for Told {
+    fn fmt<W: fmt::Write>(&self, f: &mut fmt::Formatter<W>) -> fmt::Result {
+        match self.0 {
+            Ok(Answer::Aged) => write!(f, "aged"),
+            Ok(Answer::Changed) => write!(f, "changed"),
+            Ok(Answer::Unknown) => write!(f, "unknown"),
+            Ok(Answer::Stored) => write!(f, "stored"),
+            Ok(Answer::Passed) => write!(f, "passed"),
+            Ok(Answer::Hit(line)) => write!(f, "hit {line}"),
+            Ok(Answer::Wanted(line, ticket)) => write!(f, "wanted {line} {ticket}"),
+            Err(cause) => write!(f, "refused {}", u64::from(cause)),
         }
     }
 }
 
-fn say_levels(levels: Levels) {
-    match levels {
-        Levels::Sum(n) => say_number(n),
-        Levels::Refused(n) => {
-            say(b" refused");
-            say_number(n);
-        }
-    }
-    say(b"\n");
-}
+#[derive(Clone, Copy)]
+struct Heard(Option<Result<Entry, Refusal>>);
 
-fn say_entry(entry: Entry) {
-    match entry {
-        Entry::Read { key, weight } => {
-            say(b"read");
-            say_number(key);
-            say_number(weight);
+impl fmt::Display for Heard {
+    fn fmt<W: fmt::Write>(&self, f: &mut fmt::Formatter<W>) -> fmt::Result {
+        match self.0 {
+            Some(Ok(Entry::Read { key, weight })) => write!(f, "read {key} {weight}"),
+            Some(Ok(Entry::Update { key, weight })) => write!(f, "update {key} {weight}"),
+            Some(
+                Ok(
+                    Entry::Fill {
+                        key,
+                        picture,
+                        ticket,
+                    },
+                ),
+            ) => write!(f, "fill {key} {picture} {ticket}"),
+            Some(Ok(Entry::Age)) => write!(f, "age"),
+            Some(Err(cause)) => write!(f, "refused {}", u64::from(cause)),
+            None => write!(f, "done"),
         }
-        Entry::Update { key, weight } => {
-            say(b"update");
-            say_number(key);
-            say_number(weight);
-        }
-        Entry::Fill {
-            key,
-            picture,
-            ticket,
-        } => {
-            say(b"fill");
-            say_number(key);
-            say_number(picture as u64);
-            say_number(ticket);
-        }
-        Entry::Age => say(b"age"),
-        Entry::Refused(n) => {
-            say(b"refused");
-            say_number(n);
-        }
-        Entry::Done => say(b"done"),
     }
 }
 
-fn say_decoded(decoded: Decoded) {
-    let entry = decoded.entry;
-    say_entry(entry);
-    say(b"; next");
-    say_number(decoded.next as u64);
-    say(b"\n");
+#[derive(Clone, Copy)]
+struct Stands(Gauge);
+
+impl fmt::Display for Stands {
+    fn fmt<W: fmt::Write>(&self, f: &mut fmt::Formatter<W>) -> fmt::Result {
+        let Gauge {
+            total,
+            ceiling,
+            serial,
+        } = self.0;
+        write!(f, "gauge {total} {ceiling} {serial}")
+    }
+}
+
+#[derive(Clone, Copy)]
+struct Bytes<'a>(&'a [u8]);
+
+impl fmt::Display for Bytes<'_> {
+    fn fmt<W: fmt::Write>(&self, f: &mut fmt::Formatter<W>) -> fmt::Result {
+        for byte in self.0 {
+            write!(f, " {byte}")?;
+        }
+        Ok(())
+    }
 }
 
 // ---- the calls
 
 // Fresh, and the memory that it leaves.
-fn start(table: &mut [u8], gauge: Gauge, lines: &[u8]) -> Gauge {
-    let started = cache::fresh(table, gauge, lines);
-    let answer = started.answer;
-    match answer {
-        Completion::Done => say(b"fresh: done"),
-        Completion::Refused(n) => {
-            say(b"fresh: refused");
-            say_number(n);
-        }
+fn start(rt: &impl Print, table: &mut [u8], gauge: &mut Gauge, lines: &[u8]) -> io::Result<()> {
+    match cache::fresh(table, gauge, lines) {
+        Ok(()) => print!(rt; "fresh: done")?,
+        Err(cause) => print!(rt; "fresh: refused {}", u64::from(cause))?,
     }
-    let after = started.gauge;
-    say_gauge(after);
-    say(b"table");
-    say_bytes(table);
-    say(b"lines");
-    say_bytes(lines);
-    after
+    println!(rt; "; {}", Stands(*gauge))?;
+    println!(rt; "table{}", Bytes(table))?;
+    println!(rt; "lines{}", Bytes(lines))
 }
 
-fn told(reply: Reply) -> Gauge {
-    let answer = reply.answer;
-    let gauge = reply.gauge;
-    say_answer(answer);
-    say_gauge(gauge);
-    gauge
+fn show(rt: &impl Print, table: &[u8], gauge: Gauge, lines: &[u8], key: u64) -> io::Result<()> {
+    println!(rt;
+        "show:{}",
+        Bytes(cache::show(table, gauge, lines, key, b"none"))
+    )
 }
 
-fn read(table: &mut [u8], gauge: Gauge, lines: &[u8], key: u64, weight: u64) -> Gauge {
-    say(b"read: ");
-    let reply = lending::read(table, gauge, lines, key, weight);
-    told(reply)
+fn sum(rt: &impl Print, table: &[u8], gauge: Gauge, lines: &[u8]) -> io::Result<()> {
+    match cache::levelled_sum(table, gauge, lines) {
+        Ok(levels) => println!(rt; "levelled sum: {levels}"),
+        Err(cause) => println!(rt; "levelled sum: refused {}", u64::from(cause)),
+    }
 }
 
-fn update(table: &mut [u8], gauge: Gauge, lines: &[u8], key: u64, weight: u64) -> Gauge {
-    say(b"update: ");
-    let reply = lending::update(table, gauge, lines, key, weight);
-    told(reply)
+// Three records and two lines.
+#[derive(Drop)]
+struct Hub {
+    table: [u8; 120],
+    gauge: Gauge,
+    lines: [u8; 128],
 }
 
-fn age(table: &mut [u8], gauge: Gauge, lines: &[u8]) -> Gauge {
-    say(b"age: ");
-    let reply = lending::age(table, gauge, lines);
-    told(reply)
-}
+impl Hub {
+    fn told(&self, rt: &impl Print, call: &str, reply: Result<Answer, Refusal>) -> io::Result<()> {
+        println!(rt; "{call}: {}; {}", Told(reply), Stands(self.gauge))
+    }
 
-fn fill(table: &mut [u8], gauge: Gauge, lines: &mut [u8], key: u64, picture: &[u8], ticket: u64) {
-    say(b"fill: ");
-    let answer = cache::fill(table, gauge, lines, key, picture, ticket);
-    say_answer(answer);
-    say_gauge(gauge);
-}
+    fn read(&mut self, rt: &impl Print, key: u64, weight: u64) -> io::Result<()> {
+        let reply = cache::read(&mut self.table, &mut self.gauge, &self.lines, key, weight);
+        self.told(rt, "read", reply)
+    }
 
-fn show(table: &[u8], gauge: Gauge, lines: &[u8], key: u64) {
-    say(b"show:");
-    let shown = cache::show(table, gauge, lines, key, b"none");
-    say_bytes(shown);
-}
+    fn update(&mut self, rt: &impl Print, key: u64, weight: u64) -> io::Result<()> {
+        let reply = cache::update(&mut self.table, &mut self.gauge, &self.lines, key, weight);
+        self.told(rt, "update", reply)
+    }
 
-fn sum(table: &[u8], gauge: Gauge, lines: &[u8]) {
-    say(b"levelled sum:");
-    let levels = cache::levelled_sum(table, gauge, lines);
-    say_levels(levels);
+    fn fill(&mut self, rt: &impl Print, key: u64, picture: &[u8], ticket: u64) -> io::Result<()> {
+        let gauge = self.gauge;
+        let reply = cache::fill(
+            &mut self.table,
+            gauge,
+            &mut self.lines,
+            key,
+            picture,
+            ticket,
+        );
+        self.told(rt, "fill", reply)
+    }
+
+    fn age(&mut self, rt: &impl Print) -> io::Result<()> {
+        let reply = cache::age(&mut self.table, &mut self.gauge, &self.lines);
+        self.told(rt, "age", reply)
+    }
+
+    fn show(&self, rt: &impl Print, key: u64) -> io::Result<()> {
+        show(rt, &self.table, self.gauge, &self.lines, key)
+    }
 }
 
 // ---- what is run
 
-// Three records and two lines: 5 gets line 0 with ticket 1, and is filled.
-fn filled(table: &mut [u8], gauge: Gauge, lines: &mut [u8], picture: &[u8]) -> Gauge {
-    let one = read(table, gauge, lines, 5, 3);
-    fill(table, one, lines, 5, picture, 1);
-    read(table, one, lines, 5, 1)
+// 5 gets line 0 with ticket 1, and is filled.
+fn filled(rt: &impl Print, hub: &mut Hub, picture: &[u8]) -> io::Result<()> {
+    hub.read(rt, 5, 3)?;
+    hub.fill(rt, 5, picture, 1)?;
+    hub.read(rt, 5, 1)
 }
 
 // 7 gets line 1 with ticket 2, 9 gets none. 7 cools and keeps its line with ticket 3, and a fill with ticket 2 comes too late.
-fn late(table: &mut [u8], gauge: Gauge, lines: &mut [u8], picture: &[u8]) -> Gauge {
-    let one = read(table, gauge, lines, 7, 4);
-    let two = read(table, one, lines, 9, 2);
-    let three = update(table, two, lines, 7, 1);
-    fill(table, three, lines, 7, picture, 2);
-    three
+fn late(rt: &impl Print, hub: &mut Hub, picture: &[u8]) -> io::Result<()> {
+    hub.read(rt, 7, 4)?;
+    hub.read(rt, 9, 2)?;
+    hub.update(rt, 7, 1)?;
+    hub.fill(rt, 7, picture, 2)
 }
 
 // An untracked class and two wrong weights change nothing.
-fn unchanged(table: &mut [u8], gauge: Gauge, lines: &[u8]) -> Gauge {
-    let one = update(table, gauge, lines, 99, 1);
-    let two = read(table, one, lines, 5, 65536);
-    update(table, two, lines, 5, 65536)
+fn unchanged(rt: &impl Print, hub: &mut Hub) -> io::Result<()> {
+    hub.update(rt, 99, 1)?;
+    hub.read(rt, 5, 65536)?;
+    hub.update(rt, 5, 65536)
 }
 
 // 5 is on a filled line, 7 on an empty one, 9 on none; 42 is untracked. An update of weight 0 is no look.
-fn looks(table: &mut [u8], gauge: Gauge, lines: &[u8]) -> Gauge {
-    let one = read(table, gauge, lines, 5, 0);
-    let two = read(table, one, lines, 7, 0);
-    let three = read(table, two, lines, 9, 0);
-    let four = read(table, three, lines, 42, 0);
-    update(table, four, lines, 5, 0)
+fn looks(rt: &impl Print, hub: &mut Hub) -> io::Result<()> {
+    for key in [5, 7, 9, 42] {
+        hub.read(rt, key, 0)?;
+    }
+    hub.update(rt, 5, 0)
 }
 
 // One aging, and one that is refused, since lines of one byte are not whole. Then 9 leaves for 11, which takes 7's line
 // with ticket 4.
-fn agings(table: &mut [u8], gauge: Gauge, lines: &[u8]) -> Gauge {
-    let one = age(table, gauge, lines);
-    let two = age(table, one, b"x");
-    read(table, two, lines, 11, 1)
+fn agings(rt: &impl Print, hub: &mut Hub) -> io::Result<()> {
+    hub.age(rt)?;
+    let reply = cache::age(&mut hub.table, &mut hub.gauge, b"x");
+    hub.told(rt, "age", reply)?;
+    hub.read(rt, 11, 1)
 }
 
 // The line as it lies; and the stand-in: for an empty line, no line, no record, lines that are not whole, and heats over the total.
-fn shown(table: &[u8], gauge: Gauge, lines: &[u8]) {
-    show(table, gauge, lines, 5);
-    show(table, gauge, lines, 11);
-    show(table, gauge, lines, 7);
-    show(table, gauge, lines, 42);
-    show(table, gauge, b"x", 5);
-    show(table, fresh_gauge(), lines, 5);
+fn shown(rt: &impl Print, hub: &Hub) -> io::Result<()> {
+    for key in [5, 11, 7, 42] {
+        hub.show(rt, key)?;
+    }
+    show(rt, &hub.table, hub.gauge, b"x", 5)?;
+    show(rt, &hub.table, Gauge::default(), &hub.lines, 5)
 }
 
 // No more tickets can be given: a read is refused, and a look is answered.
-fn spent(table: &mut [u8], gauge: Gauge, lines: &[u8]) {
-    let last = Gauge {
-        total: gauge.total,
-        ceiling: gauge.ceiling,
-        serial: SERIAL_LIMIT,
-    };
-    let one = read(table, last, lines, 5, 1);
-    read(table, one, lines, 5, 0);
+fn spent(rt: &impl Print, hub: &mut Hub) -> io::Result<()> {
+    hub.gauge.serial = SERIAL_LIMIT;
+    hub.read(rt, 5, 1)?;
+    hub.read(rt, 5, 0)
 }
 
 // Five records, the last free: heats 9, 1, 4 and 2. One record; none; and heats over the total.
-fn sums() {
+fn sums(rt: &impl Print) -> io::Result<()> {
     let gauge = Gauge {
         total: 20,
         ceiling: 3,
@@ -263,35 +224,28 @@ fn sums() {
     five[104] = 1;
     five[128] = 2;
     five[144] = 1;
-    sum(&five, gauge, b"");
+    sum(rt, &five, gauge, b"")?;
     let mut one = [0u8; 40];
     one[8] = 7;
     one[24] = 1;
-    sum(&one, gauge, b"");
-    sum(b"", gauge, b"");
-    let small = Gauge {
-        total: 8,
-        ceiling: 3,
-        serial: 0,
-    };
-    sum(&five, small, b"");
+    sum(rt, &one, gauge, b"")?;
+    sum(rt, b"", gauge, b"")?;
+    sum(rt, &five, Gauge { total: 8, ..gauge }, b"")
 }
 
 // Two records, by one reader.
-fn pairs(journal: &[u8]) {
+fn pairs(rt: &impl Print, journal: &[u8]) -> io::Result<()> {
     let pair = first_two(journal);
-    let first = pair.first;
-    say_entry(first);
-    say(b"; ");
-    let second = pair.second;
-    say_entry(second);
-    say(b"; at");
-    say_number(pair.at as u64);
-    say(b"\n");
+    println!(rt;
+        "{}; {}; at {}",
+        Heard(pair.first),
+        Heard(pair.second),
+        pair.at
+    )
 }
 
 // A read, a fill, an update, an aging, a record of unknown form and a short end.
-fn entries() {
+fn entries(rt: &impl Print) -> io::Result<()> {
     let mut journal = [0u8; 470];
     journal[0] = 1;
     journal[2] = 3;
@@ -300,53 +254,46 @@ fn entries() {
     journal[88] = 3;
     journal[96] = 7;
     journal[104] = 9;
-    journal[168] = 8;
-    journal[169] = 7;
-    journal[170] = 6;
-    journal[171] = 5;
-    journal[172] = 4;
-    journal[173] = 3;
-    journal[174] = 2;
-    journal[175] = 1;
+    journal[168..176].copy_from_slice(&[8, 7, 6, 5, 4, 3, 2, 1]);
     journal[176] = 2;
     journal[178] = 2;
     journal[184] = 6;
     journal[264] = 4;
     journal[352] = 9;
-    pairs(&journal);
-    say_decoded(read_at(&journal, 176));
-    say_decoded(read_at(&journal, 264));
-    say_decoded(read_at(&journal, 352));
-    say_decoded(read_at(&journal, 440));
-    say_decoded(read_at(&journal, 470));
-    say_decoded(read_at(&journal, 471));
-    let tail = [9u8; 100];
-    pairs(&tail);
-    pairs(b"");
+    pairs(rt, &journal)?;
+    for at in [176, 264, 352, 440, 470, 471] {
+        let decoded = decode(&journal, at);
+        println!(rt; "{}; next {}", Heard(decoded.entry), decoded.next)?;
+    }
+    pairs(rt, &[9u8; 100])?;
+    pairs(rt, b"")
 }
 
 // A run of a journal on a fresh cache: how far it came, and its rows.
-fn ran(journal: &[u8], numbered: u64, out: &mut [u8]) {
+fn ran(rt: &impl Print, journal: &[u8], numbered: u64, out: &mut [u8]) -> io::Result<()> {
     let mut table = [0u8; 120];
     let mut lines = [0u8; 64];
-    let nothing = fresh_gauge();
-    let ended = runner::run(&mut table, nothing, &mut lines, journal, numbered, out);
+    let ended = runner::run(
+        &mut table,
+        Gauge::default(),
+        &mut lines,
+        journal,
+        numbered,
+        out,
+    );
     let progress = ended.progress;
-    if ended.whole {
-        say(b"whole run: at");
-    } else {
-        say(b"run: at");
-    }
-    say_number(progress.at as u64);
-    say(b"; numbered");
-    say_number(progress.numbered);
-    let gauge = progress.gauge;
-    say_gauge(gauge);
-    say(&out[..progress.end]);
+    let how_far = if ended.whole { "whole run" } else { "run" };
+    let at = progress.at;
+    let numbered = progress.numbered;
+    println!(rt;
+        "{how_far}: at {at}; numbered {numbered}; {}",
+        Stands(progress.gauge)
+    )?;
+    io::writer(rt).write_all(&out[..progress.end])
 }
 
 // Two reads and an aging. The first two rows have 13 bytes each, and a record is run while 92 are left. The last number is 2^64 − 1.
-fn runs() {
+fn runs(rt: &impl Print) -> io::Result<()> {
     let mut journal = [0u8; 264];
     journal[0] = 1;
     journal[2] = 3;
@@ -355,46 +302,46 @@ fn runs() {
     journal[90] = 1;
     journal[96] = 5;
     journal[176] = 4;
-    let mut none = [0u8; 91];
-    ran(&journal, 7, &mut none);
-    let mut one = [0u8; 104];
-    ran(&journal, 7, &mut one);
-    let mut two = [0u8; 105];
-    ran(&journal, 7, &mut two);
-    let mut all = [0u8; 118];
-    ran(&journal, 7, &mut all);
-    let mut last = [0u8; 118];
-    ran(&journal, 18446744073709551614, &mut last);
+    ran(rt, &journal, 7, &mut [0u8; 91])?;
+    ran(rt, &journal, 7, &mut [0u8; 104])?;
+    ran(rt, &journal, 7, &mut [0u8; 105])?;
+    ran(rt, &journal, 7, &mut [0u8; 118])?;
+    ran(rt, &journal, u64::MAX - 1, &mut [0u8; 118])
 }
 
-fn main() {
-    let dirty = Gauge {
+// A picture between its first and its last byte alike.
+fn picture(first: u8, middle: u8, last: u8) -> [u8; 64] {
+    let mut picture = [middle; 64];
+    picture[0] = first;
+    picture[63] = last;
+    picture
+}
+
+fn main(rt: HostRuntime) -> io::Result<()> {
+    let mut gauge = Gauge {
         total: 6,
         ceiling: 7,
         serial: 8,
     };
-    let mut short = [255u8; 119];
-    start(&mut short, dirty, b"");
-    let mut table = [255u8; 120];
-    let mut lines = [170u8; 128];
-    let mut picture = [7u8; 64];
-    picture[0] = 1;
-    picture[63] = 9;
-    let fresh = start(&mut table, dirty, &lines);
-    let warm = filled(&mut table, fresh, &mut lines, &picture);
-    let cool = late(&mut table, warm, &mut lines, &picture);
-    let same = unchanged(&mut table, cool, &lines);
-    let looked = looks(&mut table, same, &lines);
-    let gauge = agings(&mut table, looked, &lines);
-    shown(&table, gauge, &lines);
-    let mut other = [8u8; 64];
-    other[0] = 2;
-    other[63] = 3;
-    fill(&mut table, gauge, &mut lines, 11, &other, 4);
-    show(&table, gauge, &lines, 11);
-    sum(&table, gauge, &lines);
-    spent(&mut table, gauge, &lines);
-    sums();
-    entries();
-    runs();
+    start(&rt, &mut [255u8; 119], &mut gauge, b"")?;
+    let mut hub = Hub {
+        table: [255; 120],
+        gauge,
+        lines: [170; 128],
+    };
+    start(&rt, &mut hub.table, &mut hub.gauge, &hub.lines)?;
+    let one = picture(1, 7, 9);
+    filled(&rt, &mut hub, &one)?;
+    late(&rt, &mut hub, &one)?;
+    unchanged(&rt, &mut hub)?;
+    looks(&rt, &mut hub)?;
+    agings(&rt, &mut hub)?;
+    shown(&rt, &hub)?;
+    hub.fill(&rt, 11, &picture(2, 8, 3), 4)?;
+    hub.show(&rt, 11)?;
+    sum(&rt, &hub.table, hub.gauge, &hub.lines)?;
+    spent(&rt, &mut hub)?;
+    sums(&rt)?;
+    entries(&rt)?;
+    runs(&rt)
 }

@@ -1,15 +1,17 @@
-// One record, and the gauge: what their numbers say, and what becomes of them.
+// One record: what its numbers say, and what becomes of it.
 #![tactic(auto)]
 
 ghost use Rattle.std.specs.Prelude.{◌≡◌, true, ◌≤◌, ◌<◌, ◌^◌};
-ghost use Rattle.rules.specs.Table.{is_unlined, is_lined, line_of, is_filled, is_zero, most_total, with_heat, with_slack, with_state, with_ticket, with_total, with_ceiling, with_serial, fresh_gauge, heated, cooled, aged_record, new_record, unlined, empty_state, on_empty_line, emptied, filled};
+ghost use Rattle.rules.specs.Table.{is_unlined, is_lined, line_of, is_filled, is_zero, most_total, heated, cooled, aged_record, new_record, unlined, empty_state, on_empty_line, emptied, filled};
 ghost use Rattle.rules.specs.Calls.{most_records, most_weight};
-ghost use Rattle.rules.specs.Answers.{number_of};
+ghost use Rattle.rules.specs.Answers.{answer_number};
 ghost use Rattle.rules.specs.Steps.{read_answer, level};
 
-use rules::{Answer, Gauge, Record};
+use rules::{Answer, Record};
 
 // ---- what a record's state says
+// A state stays a number and is no enum: it is what the lent bytes hold, a damaged table may hold any, and whether a table is in order
+// is a bound on the number. These functions say what it means; a walk that reads it directly does so for its speed.
 
 // Whether it is tracked without a line.
 #[tactic(auto, unfolding(rules::specs::Table::is_unlined))]
@@ -49,111 +51,7 @@ pub fn line_of(r: Record) -> usize
 pub fn is_zero(r: Record) -> bool
     ensures { result ≡ is_zero r }
 {
-    if r.key != 0 {
-        return false;
-    }
-    if r.heat != 0 {
-        return false;
-    }
-    if r.slack != 0 {
-        return false;
-    }
-    if r.state != 0 {
-        return false;
-    }
-    r.ticket == 0
-}
-
-// ---- a record, or a gauge, with one number changed
-
-fn with_heat(heat: u64, r: Record) -> Record
-    ensures { result ≡ with_heat heat r }
-{
-    Record {
-        key: r.key,
-        heat,
-        slack: r.slack,
-        state: r.state,
-        ticket: r.ticket,
-    }
-}
-
-fn with_slack(slack: u64, r: Record) -> Record
-    ensures { result ≡ with_slack slack r }
-{
-    Record {
-        key: r.key,
-        heat: r.heat,
-        slack,
-        state: r.state,
-        ticket: r.ticket,
-    }
-}
-
-fn with_state(state: u64, r: Record) -> Record
-    ensures { result ≡ with_state state r }
-{
-    Record {
-        key: r.key,
-        heat: r.heat,
-        slack: r.slack,
-        state,
-        ticket: r.ticket,
-    }
-}
-
-pub fn with_ticket(ticket: u64, r: Record) -> Record
-    ensures { result ≡ with_ticket ticket r }
-{
-    Record {
-        key: r.key,
-        heat: r.heat,
-        slack: r.slack,
-        state: r.state,
-        ticket,
-    }
-}
-
-pub fn with_total(total: u64, g: Gauge) -> Gauge
-    ensures { result ≡ with_total total g }
-{
-    Gauge {
-        total,
-        ceiling: g.ceiling,
-        serial: g.serial,
-    }
-}
-
-pub fn with_ceiling(ceiling: u64, g: Gauge) -> Gauge
-    ensures { result ≡ with_ceiling ceiling g }
-{
-    Gauge {
-        total: g.total,
-        ceiling,
-        serial: g.serial,
-    }
-}
-
-pub fn with_serial(serial: u64, g: Gauge) -> Gauge
-    ensures { result ≡ with_serial serial g }
-{
-    Gauge {
-        total: g.total,
-        ceiling: g.ceiling,
-        serial,
-    }
-}
-
-// The gauge of a fresh table.
-#[tactic(auto, unfolding(rules::specs::Table::fresh_gauge))]
-pub fn fresh_gauge() -> Gauge
-    ensures { result ≡ fresh_gauge }
-{
-    Gauge {
-        total: 0,
-        ceiling: 0,
-        serial: 0,
-    }
+    r == Record::default()
 }
 
 // ---- what becomes of a record
@@ -164,7 +62,10 @@ pub fn heated(weight: u64, r: Record) -> Record
     requires { (weight ≤ most_weight) × (r.heat ≤ most_total) }
     ensures { result ≡ heated weight r }
 {
-    with_heat(r.heat + weight, r)
+    Record {
+        heat: r.heat + weight,
+        ..r
+    }
 }
 
 // After an update.
@@ -172,8 +73,10 @@ pub fn heated(weight: u64, r: Record) -> Record
 pub fn cooled(weight: u64, r: Record) -> Record
     ensures { result ≡ cooled weight r }
 {
-    let heat = if weight < r.heat { r.heat - weight } else { 0 };
-    with_heat(heat, r)
+    Record {
+        heat: r.heat.saturating_sub(weight),
+        ..r
+    }
 }
 
 // After an aging.
@@ -181,7 +84,11 @@ pub fn cooled(weight: u64, r: Record) -> Record
 pub fn aged_record(r: Record) -> Record
     ensures { result ≡ aged_record r }
 {
-    with_slack(r.slack / 2 + r.slack % 2, with_heat(r.heat / 2, r))
+    Record {
+        heat: r.heat / 2,
+        slack: r.slack.div_ceil(2),
+        ..r
+    }
 }
 
 // Of a key that is tracked anew.
@@ -194,7 +101,7 @@ pub fn new_record(key: u64, ceiling: u64, weight: u64) -> Record
         key,
         heat: ceiling + weight,
         slack: ceiling,
-        state: 1,
+        state: 1, // tracked, without a line
         ticket: 0,
     }
 }
@@ -204,7 +111,11 @@ pub fn new_record(key: u64, ceiling: u64, weight: u64) -> Record
 pub fn unlined(r: Record) -> Record
     ensures { result ≡ unlined r }
 {
-    with_ticket(0, with_state(1, r))
+    Record {
+        state: 1,
+        ticket: 0, // as all records without a line
+        ..r
+    }
 }
 
 // On a line that it has just got, with the ticket that it got with it.
@@ -213,7 +124,11 @@ pub fn on_empty_line(line: usize, ticket: u64, r: Record) -> Record
     requires { empty_state line < 2 ^ 64 }
     ensures { result ≡ on_empty_line line ticket r }
 {
-    with_ticket(ticket, with_state(2 + 2 * (line as u64), r))
+    Record {
+        state: 2 + 2 * (line as u64),
+        ticket,
+        ..r
+    }
 }
 
 // With its line, if it is on one, empty.
@@ -222,7 +137,10 @@ pub fn emptied(r: Record) -> Record
     ensures { result ≡ emptied r }
 {
     if is_lined(r) {
-        with_state(2 + 2 * (line_of(r) as u64), r)
+        Record {
+            state: 2 + 2 * (line_of(r) as u64),
+            ..r
+        }
     } else {
         r
     }
@@ -234,24 +152,28 @@ pub fn filled(r: Record) -> Record
     requires { (is_lined r ≡ true) × (line_of r < most_records) }
     ensures { result ≡ filled r }
 {
-    with_state(3 + 2 * (line_of(r) as u64), r)
+    Record {
+        state: 3 + 2 * (line_of(r) as u64),
+        ..r
+    }
 }
 
 // ---- what a call makes of it
 
-// Step 6: what a read answers.
-#[tactic(auto, unfolding(rules::specs::Table::is_filled, rules::specs::Steps::read_answer, rules::specs::Answers::number_of, rules::specs::Table::line_of))]
+// Step 6: what a read answers. (An enum takes no ghost field and no model, so that its number fits 64 bits is a clause of each function
+// that answers.)
+#[tactic(auto, unfolding(rules::specs::Table::is_filled, rules::specs::Steps::read_answer, rules::specs::Answers::answer_number, rules::specs::Table::line_of))]
 pub fn read_answer(r: Record) -> Answer
     ensures value { result ≡ read_answer r }
-    ensures result_bound { number_of result < 2 ^ 64 }
+    ensures result_bound { answer_number result < 2 ^ 64 }
 {
     if is_filled(r) {
-        return Answer::Hit(line_of(r) as u64);
+        Answer::Hit(line_of(r) as u64)
+    } else if is_lined(r) {
+        Answer::Wanted(line_of(r) as u64, r.ticket)
+    } else {
+        Answer::Passed
     }
-    if is_lined(r) {
-        return Answer::Wanted(line_of(r) as u64, r.ticket);
-    }
-    Answer::Passed
 }
 
 // What it counts in the levelled sum.
@@ -260,7 +182,8 @@ pub fn level(ceiling: u64, r: Record) -> u64
     ensures { result ≡ level ceiling r }
 {
     if r.state == 0 {
-        return ceiling;
+        ceiling
+    } else {
+        r.heat.max(ceiling)
     }
-    if r.heat < ceiling { ceiling } else { r.heat }
 }

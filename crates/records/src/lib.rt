@@ -20,43 +20,22 @@ const TICKET_AT: usize = 32;
 // The size of a line and of a picture, in bytes.
 pub const LINE_SIZE: usize = 64;
 
-// A byte as a wider number.
-fn wide(b: u8) -> u64
-    ensures { (result ≡ b) × (result < 256) }
-{
-    b as u64
-}
-
 // The 64-bit number at a place, least significant byte first.
 #[tactic(auto, unfolding(rules::specs::Bytes::get64))]
 pub fn get_u64(bytes: &[u8], at: usize) -> u64
     requires { at + 8 ≤ length bytes.now }
     ensures { result ≡ get64 bytes.now at }
 {
-    wide(bytes[at])
-        + wide(bytes[at + 1]) * 256
-        + wide(bytes[at + 2]) * 65536
-        + wide(bytes[at + 3]) * 16777216
-        + wide(bytes[at + 4]) * 4294967296
-        + wide(bytes[at + 5]) * 1099511627776
-        + wide(bytes[at + 6]) * 281474976710656
-        + wide(bytes[at + 7]) * 72057594037927936
+    u64::from_le_bytes(bytes[at..at + 8].try_into().unwrap())
 }
 
 // Puts a 64-bit number at a place.
-#[tactic(auto, unfolding(rules::specs::Bytes::put64))]
+#[tactic(auto, using(crate::proofs::Words::put64_part))]
 pub fn put_u64(bytes: &mut [u8], at: usize, n: u64)
     requires { at + 8 ≤ length bytes.old }
     ensures { bytes.new ≡ put64 bytes.old at n }
 {
-    bytes[at] = (n % 256) as u8;
-    bytes[at + 1] = (n / 256 % 256) as u8;
-    bytes[at + 2] = (n / 65536 % 256) as u8;
-    bytes[at + 3] = (n / 16777216 % 256) as u8;
-    bytes[at + 4] = (n / 4294967296 % 256) as u8;
-    bytes[at + 5] = (n / 1099511627776 % 256) as u8;
-    bytes[at + 6] = (n / 281474976710656 % 256) as u8;
-    bytes[at + 7] = (n / 72057594037927936 % 256) as u8;
+    bytes[at..at + 8].copy_from_slice(&n.to_le_bytes());
 }
 
 // The record at place i of a table.

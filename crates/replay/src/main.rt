@@ -9,7 +9,6 @@ ghost use Rattle.rules.specs.Calls.{lent, fresh_outcome};
 ghost use Rattle.rules.specs.Journal.{going_on, start_run};
 ghost use Rattle.replay.specs.Pieces.{piece_records, piece_size, rows_size, RunsPiece, Replays};
 
-use fields::fresh_gauge;
 use journal::ENTRY_SIZE;
 use records::{LINE_SIZE, RECORD_SIZE};
 use rows::ROW_SIZE;
@@ -31,7 +30,8 @@ const PIECE_SIZE: usize = ENTRY_SIZE * PIECE_RECORDS;
 
 const ROWS_SIZE: usize = ROW_SIZE * PIECE_RECORDS;
 
-// What a piece leaves: how far its run came, how many bytes were read, and whether its rows were written.
+// What a piece leaves: how far its run came, how many bytes were read, and whether its rows were written. (No enum: the count and the
+// run are there whether or not the rows were written.)
 #[derive(Clone, Copy)]
 struct Ran {
     progress: Progress,
@@ -39,67 +39,75 @@ struct Ran {
     wrote: bool,
 }
 
-// Reads a piece, runs it, and writes its rows.
-fn run_piece(
-    table: &mut [u8],
-    gauge: Gauge,
-    lines: &mut [u8],
-    piece: &mut [u8],
-    numbered: u64,
-    out: &mut [u8],
-) -> Ran
-    requires { (length piece.old ≡ piece_size) × (length out.old ≡ rows_size) × (numbered + piece_records < 2 ^ 64) }
-    ensures { RunsPiece (going_on (lent table.old gauge lines.old) numbered) piece.new out.old result (lent table.new result.progress.gauge lines.new) out.new }
-{
-    let got = io::read_full(INPUT, piece);
-    let ended = runner::run(table, gauge, lines, &piece[..got], numbered, out);
-    let progress = ended.progress;
-    let wrote = io::write_all(OUTPUT, &out[..progress.end]);
-    Ran {
-        progress,
-        got,
-        wrote,
-    }
-}
-
 // A proved loop has to end, and nothing says that an input does: the pieces are counted, up to a number that no run reaches.
 const MOST_PIECES: u64 = 4503599627370496;
 
-// Runs all pieces, one after another, from a given gauge.
-fn run_all(
-    table: &mut [u8],
-    gauge: Gauge,
-    lines: &mut [u8],
-    piece: &mut [u8],
-    out: &mut [u8],
-) -> Ran
-    requires { (length piece.old ≡ piece_size) × (length out.old ≡ rows_size) }
-    ensures { Replays (start_run (lent table.old gauge lines.old)) piece.new result (lent table.new result.progress.gauge lines.new) out.new }
-{
-    let mut t = run_piece(table, gauge, lines, piece, 0, out);
-    let mut pieces: u64 = 0; // before the last
-    while t.wrote & (t.got == PIECE_SIZE) & (pieces < MOST_PIECES) {
-        let p = t.progress;
-        t = run_piece(table, p.gauge, lines, piece, p.numbered, out);
-        pieces += 1;
-    }
-    t
+// The memory of a run: the cache's table and lines, a piece of the journal, and the rows of a piece.
+#[derive(Drop)]
+struct Store {
+    table: [u8; TABLE_SIZE],
+    lines: [u8; LINE_SIZE],
+    piece: [u8; PIECE_SIZE],
+    out: [u8; ROWS_SIZE],
 }
 
-// Runs all pieces on a cache that starts fresh.
-fn run_fresh(table: &mut [u8], lines: &mut [u8], piece: &mut [u8], out: &mut [u8]) -> Ran
-    requires { (length piece.old ≡ piece_size) × (length out.old ≡ rows_size) }
-    ensures { Replays (start_run (fresh_outcome (lent table.old fresh_gauge lines.old)).after) piece.new result (lent table.new result.progress.gauge lines.new) out.new }
-{
-    let started = cache::fresh(table, fresh_gauge(), lines);
-    let gauge = started.gauge;
-    run_all(table, gauge, lines, piece, out)
+impl Store {
+    // Reads a piece, runs it, and writes its rows.
+    fn run_piece(&mut self, gauge: Gauge, numbered: u64) -> Ran
+        requires { numbered + piece_records < 2 ^ 64 }
+        ensures runs { RunsPiece (going_on (lent self.old.table gauge self.old.lines) numbered) self.new.piece self.old.out result (lent self.new.table result.progress.gauge self.new.lines) self.new.out }
+        ensures whole { length self.new.piece ≡ piece_size }
+    {
+        let got = io::read_full(INPUT, &mut self.piece);
+        let journal = &self.piece[..got];
+        let ended = runner::run(
+            &mut self.table,
+            gauge,
+            &mut self.lines,
+            journal,
+            numbered,
+            &mut self.out,
+        );
+        let progress = ended.progress;
+        let wrote = io::write_all(OUTPUT, &self.out[..progress.end]);
+        Ran {
+            progress,
+            got,
+            wrote,
+        }
+    }
+
+    // Runs all pieces, one after another, from a given gauge.
+    fn run_all(&mut self, gauge: Gauge) -> Ran
+        ensures { Replays (start_run (lent self.old.table gauge self.old.lines)) self.new.piece result (lent self.new.table result.progress.gauge self.new.lines) self.new.out }
+    {
+        let mut t = self.run_piece(gauge, 0);
+        for pieces in 0..MOST_PIECES {
+            if !t.wrote || t.got < PIECE_SIZE {
+                return t;
+            }
+            t = self.run_piece(t.progress.gauge, t.progress.numbered);
+        }
+        t
+    }
+
+    // Runs all pieces on a cache that starts fresh.
+    #[tactic(auto, unfolding(rules::specs::Table::fresh_gauge))]
+    fn run_fresh(&mut self) -> Ran
+        ensures { Replays (start_run (fresh_outcome (lent self.old.table fresh_gauge self.old.lines)).after) self.new.piece result (lent self.new.table result.progress.gauge self.new.lines) self.new.out }
+    {
+        let mut gauge = Gauge::default();
+        let _ = cache::fresh(&mut self.table, &mut gauge, &self.lines);
+        self.run_all(gauge)
+    }
 }
 
 fn main() {
-    let mut table = [0u8; TABLE_SIZE];
-    let mut lines = [0u8; LINE_SIZE];
-    let mut piece = [0u8; PIECE_SIZE];
-    let mut out = [0u8; ROWS_SIZE];
-    run_fresh(&mut table, &mut lines, &mut piece, &mut out);
+    let mut store = Store {
+        table: [0; TABLE_SIZE],
+        lines: [0; LINE_SIZE],
+        piece: [0; PIECE_SIZE],
+        out: [0; ROWS_SIZE],
+    };
+    store.run_fresh();
 }

@@ -1,6 +1,6 @@
 -- The laws of bytes written into a buffer: its length stays, what is written after what was written joins it, and what stands in
 -- front of the end. Assumes nothing.
-use Prim.Native.Nat.{ℕ, suc, ◌+◌, ◌≤◌, ◌<◌}
+use Prim.Native.Nat.{ℕ, ◌+◌, ◌≤◌, ◌<◌}
 use mathlib.Core.List.{List, [], ◌∷◌, ◌++◌, append_assoc, append-nil}
 use mathlib.Core.Path.{◌≡◌, refl}
 use native.Mathlib.Omega.{arith}
@@ -12,11 +12,11 @@ use Rattle.rows.specs.Written.{written, Puts}
 -- ---- a buffer
 pub written_none : (out : List ℕ) (at : ℕ) → written out at [] ≡ out
 unfolding written
-written_none out at = let e : at + 0 ≡ at = omega arith in rw e (take-append-drop at out)
+written_none out at = grind (arith, take-append-drop)
 
 pub written_one : (out : List ℕ) (at v : ℕ) → at < length out → set out at v ≡ written out at (v ∷ [])
 unfolding written
-written_one out at v room = let e : at + 1 ≡ suc at = omega arith in rw e (set_split out at v room)
+written_one out at v room = grind (arith, set_split)
 
 module _ (out : List ℕ) (at : ℕ) (a : List ℕ) (room : at + length a ≤ length out) where
   front_length : length (take at out ++ a) ≡ at + length a
@@ -37,25 +37,14 @@ module _ (out : List ℕ) (at : ℕ) (a : List ℕ) (room : at + length a ≤ le
 
   pub written_more : (b : List ℕ) → written (written out at a) (at + length a) b ≡ written out at (a ++ b)
   unfolding written
-  written_more b =
-      let e : at + (length a + length b) ≡ at + length a + length b = omega arith in
-      rw (written_take, written_drop (length b), length-append, e) (simp append_assoc)
+  written_more b = grind (arith, written_take, written_drop, append_assoc, length-append)
+
+-- what joins what was written after it
+pub ruleset joins = (written_more, length-append, append_assoc)
 
 pub puts_join : {out mid after : List ℕ} {at middle end : ℕ} {a b : List ℕ} → middle ≤ length out → Puts out at a middle mid → Puts mid middle b end after →
     Puts out at (a ++ b) end after
-puts_join {out} {mid} {after} {at} {middle} {end} {a} {b} room first next =
-    let fits : at + length a ≤ length out = omega arith in
-    record {
-      ends = simp length-append (omega arith);
-      holds = rw (next.holds, first.holds, first.ends) (written_more out at a fits b);
-    }
-
-pub written_push : (out : List ℕ) (at : ℕ) (a : List ℕ) (v : ℕ) → at + length a < length out →
-    set (written out at a) (at + length a) v ≡ written out at (a ++ (v ∷ []))
-written_push out at a v room =
-    let fits : at + length a ≤ length out = omega arith in
-    let inside : at + length a < length (written out at a) = rw (written_length out at a fits) room in
-    rw (written_one (written out at a) (at + length a) v inside) (written_more out at a fits (v ∷ []))
+puts_join room first next = record { ends = grind (arith, joins); holds = grind (arith, joins) }
 
 -- what was written from the start stands in front of the end
 pub puts_front : {out after a : List ℕ} {end : ℕ} → Puts out 0 a end after → take end after ≡ a

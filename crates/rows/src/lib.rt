@@ -5,7 +5,7 @@ ghost use Rattle.std.specs.Prelude.{◌∷◌, ◌+◌, ◌≤◌, length};
 ghost use Rattle.rules.specs.Journal.{digits, decimal, word_of, printed};
 ghost use Rattle.rows.specs.Written.{row_size, Puts};
 
-use rules::{Answer, Gauge};
+use rules::{Answer, Gauge, Refusal};
 
 // The most bytes that a row takes.
 pub const ROW_SIZE: usize = 92;
@@ -16,16 +16,14 @@ fn put_bytes(out: &mut [u8], at: usize, bytes: &[u8]) -> usize
     requires { at + length bytes.now ≤ length out.old }
     ensures { Puts out.old at bytes.now result out.new }
 {
-    let n = bytes.len();
-    let mut i = 0;
-    while i < n {
-        out[at + i] = bytes[i];
-        i += 1;
-    }
-    at + n
+    let end = at + bytes.len();
+    out[at..end].copy_from_slice(bytes);
+    end
 }
 
-// Writes the last digits of a number, at most so many.
+// Writes the last digits of a number, at most so many. (By hand: `write!` says what it wrote only where it gives `Ok`, and nothing says
+// when it does, while a row is always written.)
+#[tactic(auto, using(crate::proofs::Digits::writing))]
 fn put_digits(out: &mut [u8], at: usize, most: usize, n: u64) -> usize
     requires { at + most ≤ length out.old }
     ensures { Puts out.old at (digits most n) result out.new × (result ≤ at + most) }
@@ -42,27 +40,30 @@ fn put_digits(out: &mut [u8], at: usize, most: usize, n: u64) -> usize
     end + 1
 }
 
-#[tactic(auto, unfolding(rules::specs::Journal::word_of))]
-fn put_word(out: &mut [u8], at: usize, answer: Answer) -> usize
+// Writes an answer's word, and the number of a refusal.
+#[tactic(auto, unfolding(rules::specs::Journal::word_of, rules::specs::Journal::decimal), using(crate::proofs::Written::joins))]
+fn put_word(out: &mut [u8], at: usize, reply: Result<Answer, Refusal>) -> usize
     requires { at + 28 ≤ length out.old }
-    ensures { Puts out.old at (word_of answer) result out.new × (result ≤ at + 28) }
+    ensures { Puts out.old at (word_of reply) result out.new × (result ≤ at + 28) }
 {
-    match answer {
-        Answer::Aged => put_bytes(out, at, b"aged"),
-        Answer::Changed => put_bytes(out, at, b"changed"),
-        Answer::Unknown => put_bytes(out, at, b"unknown"),
-        Answer::Stored => put_bytes(out, at, b"stored"),
-        Answer::Passed => put_bytes(out, at, b"passed"),
-        Answer::Hit(_) => put_bytes(out, at, b"hit"),
-        Answer::Wanted(_, _) => put_bytes(out, at, b"wanted"),
-        Answer::Refused(n) => {
+    let word = match reply {
+        Ok(Answer::Aged) => "aged",
+        Ok(Answer::Changed) => "changed",
+        Ok(Answer::Unknown) => "unknown",
+        Ok(Answer::Stored) => "stored",
+        Ok(Answer::Passed) => "passed",
+        Ok(Answer::Hit(_)) => "hit",
+        Ok(Answer::Wanted(_, _)) => "wanted",
+        Err(cause) => {
             let end = put_bytes(out, at, b"refused-");
-            put_digits(out, end, 20, n)
+            return put_digits(out, end, 20, cause.into());
         }
-    }
+    };
+    put_bytes(out, at, word.as_bytes())
 }
 
 // Writes a space and a number.
+#[tactic(auto, unfolding(rules::specs::Journal::decimal), using(crate::proofs::Written::joins))]
 fn put_number(out: &mut [u8], at: usize, n: u64) -> usize
     requires { at + 21 ≤ length out.old }
     ensures { Puts out.old at (32 ∷ decimal n) result out.new × (result ≤ at + 21) }
@@ -72,13 +73,20 @@ fn put_number(out: &mut [u8], at: usize, n: u64) -> usize
 }
 
 // Writes a row: number, word, total, ceiling.
-pub fn put_row(out: &mut [u8], at: usize, number: u64, answer: Answer, gauge: Gauge) -> usize
+#[tactic(auto, unfolding(rules::specs::Journal::printed, rules::specs::Journal::decimal), using(crate::proofs::Written::joins))]
+pub fn put_row(
+    out: &mut [u8],
+    at: usize,
+    number: u64,
+    reply: Result<Answer, Refusal>,
+    gauge: Gauge,
+) -> usize
     requires { at + row_size ≤ length out.old }
-    ensures { Puts out.old at (printed (record { number = number; word = word_of answer; total = gauge.total; ceiling = gauge.ceiling })) result out.new }
+    ensures { Puts out.old at (printed (record { number = number; word = word_of reply; total = gauge.total; ceiling = gauge.ceiling })) result out.new }
 {
     let a = put_digits(out, at, 20, number);
     let b = put_bytes(out, a, b" ");
-    let c = put_word(out, b, answer);
+    let c = put_word(out, b, reply);
     let d = put_number(out, c, gauge.total);
     let e = put_number(out, d, gauge.ceiling);
     put_bytes(out, e, b"\n")

@@ -12,16 +12,16 @@ use lib.ListN.{length}
 use lib.Dec.{ltb, eqb}
 use Rattle.rules.specs.declared.Record.{Record}
 use Rattle.rules.specs.declared.Gauge.{Gauge}
-use Rattle.rules.specs.declared.Verdict.{Verdict}
-use Rattle.rules.specs.declared.Verdict.TheVariants.{Accepted}
-use Rattle.rules.specs.declared.Found.{Found}
-use Rattle.rules.specs.declared.Found.TheVariants.{Nowhere, At}
-use Rattle.rules.specs.declared.Answer.{Answer}
-use Rattle.rules.specs.declared.Answer.TheVariants.{Aged, Changed, Unknown, Stored, Passed, Hit, Wanted, Refused}
+use Rattle.rules.specs.Answers.{Completion}
+use Rattle.std.specs.Prelude.{Ok, Err}
+use Rattle.rules.specs.Pass.{Found}
+use Rattle.std.specs.Prelude.{Some, None}
+use Rattle.rules.specs.declared.Answer.TheVariants.{Aged, Changed, Unknown, Stored, Passed, Hit, Wanted}
 use Rattle.rules.specs.Bytes.{number_size, get64, line_count}
 use Rattle.std.specs.Prelude.{if◌then◌else◌}
 use Rattle.rules.specs.Table.{Memory, is_tracked, is_lined, is_filled, line_of, empty_state, with_state, with_ticket, heated, aged_record, half_down, new_record, unlined, on_empty_line, has_key, key_record, free_record, victim, hotter, coldest_lined, lowest_unused, most_total, places, size, line_total, with_table, with_gauge, write}
-use Rattle.rules.specs.Answers.{number_of, is_refused, Told, Said, said, values_of, answer_said}
+use Rattle.rules.specs.Answers.{Reply, answer_number, number_of, is_refused, Told, Said, said, values_of, answer_said}
+use Rattle.rules.specs.Refusals.{number}
 use Rattle.rules.specs.Steps.{Outcome, aged_gauge, aged, next_ticket, ticketed, give_line, hand_over, decay_for, grown, track, raised, evict, replace_coldest, promote, admit, read_answer, admission, place, read_counted, warm_steps, peek_answer, peek_steps, read_steps}
 use Rattle.rules.specs.Calls.{most_weight, serial_limit, order_good, verdict, unless, leaving, read_verdict, read_outcome, held, gauge_test, hosted, HostRead, number_test, put_ticket, hosted_read, exported_read}
 use Rattle.rules.specs.Numbers.{refusal, standing, read_said, NamesLine, TellsLine}
@@ -37,7 +37,7 @@ use Rattle.rules.proofs.CallsHold.{at_is, on_line_is, unlined_is, lines_few}
 use Rattle.rules.proofs.ReadHolds.{heated_is, new_is}
 use Rattle.rules.proofs.Verdicts.{first_passes, read_accepted}
 use Rattle.rules.proofs.Peek.{read_either}
-use Rattle.rules.proofs.Refusals.{read_told, read_given, read_hosted_told}
+use Rattle.rules.proofs.Refusals.{every_told, read_given}
 
 -- ---- what a memory must have
 -- bytes, few lines, and no state over the last line's
@@ -53,14 +53,14 @@ record Fit (m : Memory) : Type 0 where
   heat_most : (i : ℕ) → i < size m → (places m i).heat ≤ most_total
   serial_most : m.gauge.serial < serial_limit
 
-accepted_lines : (m : Memory) (w : ℕ) → IsBytes m.table → read_verdict m w ≡ Accepted → Lines m
+accepted_lines : (m : Memory) (w : ℕ) → IsBytes m.table → read_verdict m w ≡ Ok tt → Lines m
 unfolding order_good
 accepted_lines m w bytes e =
     let a = read_accepted m w e in
     let o = in_order_says (places m) (size m) (line_total m) m.gauge a.order in
     record { bytes = bytes; few = lines_few m a.sizes; state_most = o.state_most }
 
-accepted_fit : (m : Memory) (w : ℕ) → IsBytes m.table → read_verdict m w ≡ Accepted → 0 < w → Fit m
+accepted_fit : (m : Memory) (w : ℕ) → IsBytes m.table → read_verdict m w ≡ Ok tt → 0 < w → Fit m
 unfolding order_good
 accepted_fit m w bytes e weighs =
     let a = read_accepted m w e in
@@ -175,8 +175,8 @@ module _ (m : Memory) (i : ℕ) (h : Lines m) (room : m.gauge.serial < serial_li
 
   admits_replace : (x : Found) → coldest_lined (places m) (size m) ≡ x → Admits m (replace_coldest m i x) i
   unfolding replace_coldest
-  admits_replace Nowhere e = admits_same
-  admits_replace (At j r) e = go (hotter (places m i) r)
+  admits_replace None e = admits_same
+  admits_replace (Some (j, r)) e = go (hotter (places m i) r)
     where
       go : (b : Bool) → Admits m (if b then hand_over m j i else m) i
       go true = let found = coldest_found (places m) (size m) j r e in admits_hand j found.inside found.has.0
@@ -199,12 +199,12 @@ module _ (m : Memory) (i : ℕ) (h : Lines m) (room : m.gauge.serial < serial_li
       go false = waiting (ltb line (line_total m)) refl
 
 -- ---- an answer, by the record that it is read off
-stands : (i : ℕ) (r : Record) → answer_said (read_answer r) ≡ standing (At i r)
-unfolding read_answer standing answer_said number_of values_of
+stands : (i : ℕ) (r : Record) → answer_said (Ok (read_answer r)) ≡ standing (Some (i, r))
+unfolding read_answer standing answer_said number_of answer_number values_of
 stands i r = go (is_filled r) (is_lined r)
   where
     go : (b c : Bool) →
-        answer_said (if b then Hit (line_of r) else if c then Wanted (line_of r) r.ticket else Passed)
+        answer_said (Ok (if b then Hit (line_of r) else if c then Wanted (line_of r) r.ticket else Passed))
         ≡ (if b
         then said (some (2000 + line_of r)) []
         else if c then said (some (4000 + line_of r)) (r.ticket ∷ []) else said (some 104) [])
@@ -212,14 +212,14 @@ stands i r = go (is_filled r) (is_lined r)
     go false true = refl
     go false false = refl
 
-passed_names : (c : ℕ) → NamesLine c Passed
+passed_names : (c : ℕ) → NamesLine c (Ok Passed)
 passed_names c =
     record {
       hit = λ n e. let z : ◌≡◌ {A = ℕ} 0 1 = cc in absurd (omega arith);
       wanted = λ n ticket e. let z : ◌≡◌ {A = ℕ} 0 1 = cc in absurd (omega arith);
     }
 
-answer_names : (c : ℕ) (r : Record) → c < 1024 → r.state ≤ 1 + 2 * c → r.ticket < 2 ^ 64 → NamesLine c (read_answer r)
+answer_names : (c : ℕ) (r : Record) → c < 1024 → r.state ≤ 1 + 2 * c → r.ticket < 2 ^ 64 → NamesLine c (Ok (read_answer r))
 unfolding read_answer is_filled is_lined line_of
 answer_names c r few most fits = go (ltb 1 r.state) (eqb (r.state % 2) 1) refl
   where
@@ -227,7 +227,7 @@ answer_names c r few most fits = go (ltb 1 r.state) (eqb (r.state % 2) 1) refl
     below e = omega (arith, ltb-true 1 r.state e)
 
     go : (l f : Bool) → ltb 1 r.state ≡ l →
-        NamesLine c (if l && f then Hit (line_of r) else if l then Wanted (line_of r) r.ticket else Passed)
+        NamesLine c (Ok (if l && f then Hit (line_of r) else if l then Wanted (line_of r) r.ticket else Passed))
     go true true e =
         record {
           hit = λ n same. let is : line_of r ≡ n = cc in let b = below e in (omega arith, omega arith);
@@ -245,7 +245,7 @@ answer_names c r few most fits = go (ltb 1 r.state) (eqb (r.state % 2) 1) refl
     go false f e = passed_names c
 
 -- ---- the steps of a read
-record Answers (c key : ℕ) (o : Outcome Answer Memory) : Type 0 where
+record Answers (c key : ℕ) (o : Outcome Reply Memory) : Type 0 where
   says : answer_said o.answer ≡ standing (key_record key (places o.after) (size o.after))
   names : NamesLine c o.answer
 
@@ -273,7 +273,7 @@ admission_answers m key i r h inside is tracked most named earlier =
 
 module _ (key w : ℕ) (light : w ≤ most_weight) (fits : key < 2 ^ 64) where
   -- step 2
-  heat_answers : (m : Memory) (i : ℕ) (r : Record) → Fit m → key_record key (places m) (size m) ≡ At i r →
+  heat_answers : (m : Memory) (i : ℕ) (r : Record) → Fit m → key_record key (places m) (size m) ≡ Some (i, r) →
       Answers (line_total m) key (admission i (write m i (heated w r)))
   unfolding heated key_record
   heat_answers m i r h e =
@@ -286,7 +286,7 @@ module _ (key w : ℕ) (light : w ≤ most_weight) (fits : key < 2 ^ 64) where
       found.has.0 (h.lines.state_most i inside) found.has.1 first.before)
 
   -- steps 3 and 4
-  track_answers : (m : Memory) (i : ℕ) → Fit m → i < size m → key_record key (places m) (size m) ≡ Nowhere →
+  track_answers : (m : Memory) (i : ℕ) → Fit m → i < size m → key_record key (places m) (size m) ≡ None →
       Answers (line_total m) key (admission i (track m key w i))
   unfolding track new_record key_record
   track_answers m i h inside missing =
@@ -297,16 +297,16 @@ module _ (key w : ℕ) (light : w ≤ most_weight) (fits : key < 2 ^ 64) where
 
   placed_answers : (m : Memory) → Fit m → (x y z : Found) → key_record key (places m) (size m) ≡ x → free_record (places m) (size m) ≡ y →
       victim (places m) (size m) ≡ z → Answers (line_total m) key (place m key w x y z)
-  unfolding place evict raised with_gauge places size line_total answer_said number_of values_of standing
-  placed_answers m h (At i r) y z ex ey ez = heat_answers m i r h ex
-  placed_answers m h Nowhere (At i r) z ex ey ez = track_answers m i h (free_found (places m) (size m) i r ey).inside ex
-  placed_answers m h Nowhere Nowhere (At i r) ex ey ez =
+  unfolding place evict raised with_gauge places size line_total answer_said number_of answer_number values_of standing
+  placed_answers m h (Some (i, r)) y z ex ey ez = heat_answers m i r h ex
+  placed_answers m h None (Some (i, r)) z ex ey ez = track_answers m i h (free_found (places m) (size m) i r ey).inside ex
+  placed_answers m h None None (Some (i, r)) ex ey ez =
       let found = victim_found (places m) (size m) i r ez in
       let heat : r.heat ≡ (places m i).heat = ap (λ (s : Record). s.heat) found.is in
       track_answers (raised r.heat m) i
       (gauged_fit _ m (omega (arith, h.ceiling_most, h.heat_most i found.inside)) h.serial_most h)
       found.inside ex
-  placed_answers m h Nowhere Nowhere Nowhere ex ey ez = record { says = rw ex; names = passed_names (line_total m) }
+  placed_answers m h None None None ex ey ez = record { says = rw ex; names = passed_names (line_total m) }
 
   counted_answers : (m : Memory) → Fit m → Answers (line_total m) key (read_counted (grown w m) key w)
   unfolding read_counted grown with_gauge line_total
@@ -322,15 +322,15 @@ module _ (key w : ℕ) (light : w ≤ most_weight) (fits : key < 2 ^ 64) where
 
   -- a look
   peeked_answers : (m : Memory) → Lines m → Answers (line_total m) key (peek_steps m key)
-  unfolding peek_steps peek_answer answer_said number_of values_of standing
+  unfolding peek_steps peek_answer answer_said number_of answer_number values_of standing
   peeked_answers m h =
       let told = go (key_record key (places m) (size m)) refl in
       record { says = told.0; names = told.1 }
     where
       go : (x : Found) → key_record key (places m) (size m) ≡ x →
-          (answer_said (peek_answer x) ≡ standing x) × NamesLine (line_total m) (peek_answer x)
-      go Nowhere e = (refl, passed_names (line_total m))
-      go (At i r) e =
+          (answer_said (Ok (peek_answer x)) ≡ standing x) × NamesLine (line_total m) (Ok (peek_answer x))
+      go None e = (refl, passed_names (line_total m))
+      go (Some (i, r)) e =
           let found = key_found (places m) (size m) key i r e in
           (stands i r, answer_names (line_total m) r h.few (rw found.is (h.state_most i found.inside)) (rw found.is (at_is m i h.bytes).ticket))
 
@@ -338,7 +338,7 @@ module _ (key w : ℕ) (light : w ≤ most_weight) (fits : key < 2 ^ 64) where
   steps_answers m lines fit =
       read_either m key w (Answers (line_total m) key) (λ _. peeked_answers m lines) (λ weighs. warm_answers m (fit weighs))
 
-accepted_answers : (m : Memory) (key w : ℕ) → IsBytes m.table → key < 2 ^ 64 → read_verdict m w ≡ Accepted →
+accepted_answers : (m : Memory) (key w : ℕ) → IsBytes m.table → key < 2 ^ 64 → read_verdict m w ≡ Ok tt →
     Answers (line_total m) key (read_steps m key w)
 accepted_answers m key w bytes fits e =
     steps_answers key w (read_accepted m w e).good fits m (accepted_lines m w bytes e) (accepted_fit m w bytes e)
@@ -352,16 +352,16 @@ read_said_lem m key w bytes fits = go (read_verdict m w) refl
     there : Said
     there = standing (key_record key (places (read_steps m key w).after) (size (read_steps m key w).after))
 
-    go : (v : Verdict) → read_verdict m w ≡ v →
-        answer_said (unless v (leaving m) (read_steps m key w)).answer ≡ unless v refusal there
-    go Accepted e = (accepted_answers m key w bytes fits e).says
-    go (Verdict.Refused n) e = refl
+    go : (v : Completion) → read_verdict m w ≡ v →
+        answer_said (unless v (leaving m) (read_steps m key w)).answer ≡ unless v (λ cause. refusal (number cause)) there
+    go (Ok u) e = (accepted_answers m key w bytes fits e).says
+    go (Err n) e = refl
 
-unless_names : {Lent : Type 0} (c : ℕ) (v : Verdict) (lent : Lent) (given : Outcome Answer Lent) →
-    (v ≡ Accepted → NamesLine c given.answer) → NamesLine c (unless v (leaving lent) given).answer
+unless_names : {Lent : Type 0} (c : ℕ) (v : Completion) (lent : Lent) (given : Outcome Reply Lent) →
+    (v ≡ Ok tt → NamesLine c given.answer) → NamesLine c (unless v (leaving lent) given).answer
 unfolding unless
-unless_names c Accepted lent given names = names refl
-unless_names c (Verdict.Refused n) lent given names =
+unless_names c (Ok u) lent given names = names refl
+unless_names c (Err n) lent given names =
     record {
       hit = λ k e. let z : ◌≡◌ {A = ℕ} 0 1 = cc in absurd (omega arith);
       wanted = λ k ticket e. let z : ◌≡◌ {A = ℕ} 0 1 = cc in absurd (omega arith);
@@ -374,26 +374,27 @@ answered_line m key w bytes fits =
     unless_names (line_total m) (read_verdict m w) m (read_steps m key w) (λ e. (accepted_answers m key w bytes fits e).names)
 
 -- ---- by a C host
-small_tells : (c : ℕ) (a : Answer) (n : ℕ) (bytes : List ℕ) → n < 2000 → TellsLine c a n bytes
+small_tells : (c : ℕ) (a : Reply) (n : ℕ) (bytes : List ℕ) → n < 2000 → TellsLine c a n bytes
 small_tells c a n bytes small = record { hit = λ over under. absurd (omega arith); wanted = λ over. absurd (omega arith) }
 
-number_tells : (c : ℕ) (a : Answer) (bytes : List ℕ) → NamesLine c a → Told a → ((n ticket : ℕ) → a ≡ Wanted n ticket → get64 bytes 0 ≡ ticket) →
+number_tells : (c : ℕ) (a : Reply) (bytes : List ℕ) → NamesLine c a → Told a → ((n ticket : ℕ) → a ≡ Ok (Wanted n ticket) → get64 bytes 0 ≡ ticket) →
     TellsLine c a (number_of a) bytes
-unfolding number_of is_refused
-number_tells c Aged bytes names told holds = small_tells c Aged 100 bytes (omega arith)
-number_tells c Changed bytes names told holds = small_tells c Changed 101 bytes (omega arith)
-number_tells c Unknown bytes names told holds = small_tells c Unknown 102 bytes (omega arith)
-number_tells c Stored bytes names told holds = small_tells c Stored 103 bytes (omega arith)
-number_tells c Passed bytes names told holds = small_tells c Passed 104 bytes (omega arith)
-number_tells c (Hit n) bytes names told holds =
+unfolding number_of answer_number is_refused
+number_tells c (Ok Aged) bytes names told holds = small_tells c (Ok Aged) 100 bytes (omega arith)
+number_tells c (Ok Changed) bytes names told holds = small_tells c (Ok Changed) 101 bytes (omega arith)
+number_tells c (Ok Unknown) bytes names told holds = small_tells c (Ok Unknown) 102 bytes (omega arith)
+number_tells c (Ok Stored) bytes names told holds = small_tells c (Ok Stored) 103 bytes (omega arith)
+number_tells c (Ok Passed) bytes names told holds = small_tells c (Ok Passed) 104 bytes (omega arith)
+number_tells c (Ok (Hit n)) bytes names told holds =
     let (below, few) = names.hit n refl in
     let same : 2000 + n - 2000 ≡ n = omega arith in
     record { hit = λ over under. (rw same, omega arith); wanted = λ over. absurd (omega arith) }
-number_tells c (Wanted n ticket) bytes names told holds =
+number_tells c (Ok (Wanted n ticket)) bytes names told holds =
     let (below, few, fits) = names.wanted n ticket refl in
     let same : 4000 + n - 4000 ≡ n = omega arith in
     record { hit = λ over under. absurd (omega arith); wanted = λ over. (rw (same, holds n ticket refl), omega arith) }
-number_tells c (Refused n) bytes names told holds = small_tells c (Refused n) n bytes (omega (arith, ltb-true n 100 told))
+number_tells c (Err cause) bytes names told holds =
+    small_tells c (Err cause) (number cause) bytes (omega (arith, ltb-true (number cause) 100 told))
 
 host_names : (h : HostRead) (key w : ℕ) → IsBytes h.memory.table → key < 2 ^ 64 →
     NamesLine (line_count h.memory.lines) (hosted_read (λ m. read_outcome m key w) h).answer
@@ -404,18 +405,18 @@ host_names h key w bytes fits =
     (λ _. unless_names c (verdict (gauge_test h.memory ∷ [])) h.memory _ (λ _. answered_line (held h.memory) key w bytes fits))
 
 -- the bytes that a host lent for a ticket hold that of a wanted
-ticket_held : (call : Memory → Outcome Answer Memory) (h : HostRead) (n ticket : ℕ) → ticket < 2 ^ 64 →
-    (hosted_read call h).answer ≡ Wanted n ticket → get64 (hosted_read call h).after.ticket 0 ≡ ticket
+ticket_held : (call : Memory → Outcome Reply Memory) (h : HostRead) (n ticket : ℕ) → ticket < 2 ^ 64 →
+    (hosted_read call h).answer ≡ Ok (Wanted n ticket) → get64 (hosted_read call h).after.ticket 0 ≡ ticket
 unfolding hosted_read unless number_test put_ticket
 ticket_held call h n ticket fits e = go (verdict (number_test h.ticket ∷ [])) refl e
   where
-    go : (v : Verdict) → verdict (number_test h.ticket ∷ []) ≡ v →
-        (unless v (leaving h) (read_given call h)).answer ≡ Wanted n ticket →
+    go : (v : Completion) → verdict (number_test h.ticket ∷ []) ≡ v →
+        (unless v (leaving h) (read_given call h)).answer ≡ Ok (Wanted n ticket) →
         get64 (unless v (leaving h) (read_given call h)).after.ticket 0 ≡ ticket
-    go Accepted v told =
+    go (Ok u) v told =
         let whole : length h.ticket ≡ number_size = eqb-true (length h.ticket) number_size (first_passes _ _ v).0 in
         rw told (get-put64_same h.ticket 0 ticket (omega arith) fits)
-    go (Verdict.Refused k) v told = let z : ◌≡◌ {A = ℕ} 0 1 = cc in absurd (omega arith)
+    go (Err k) v told = let z : ◌≡◌ {A = ℕ} 0 1 = cc in absurd (omega arith)
 
 pub host_answered_line : (h : HostRead) (key w : ℕ) → IsBytes h.memory.table → key < 2 ^ 64 →
     TellsLine (line_count h.memory.lines) (hosted_read (λ m. read_outcome m key w) h).answer
@@ -423,5 +424,5 @@ pub host_answered_line : (h : HostRead) (key w : ℕ) → IsBytes h.memory.table
 unfolding exported_read
 host_answered_line h key w bytes fits =
     let names = host_names h key w bytes fits in
-    number_tells (line_count h.memory.lines) _ _ names (read_hosted_told (λ m. read_outcome m key w) h (read_told (held h.memory) key w))
+    number_tells (line_count h.memory.lines) _ _ names (every_told _)
     (λ n ticket e. ticket_held (λ m. read_outcome m key w) h n ticket (names.wanted n ticket e).2 e)

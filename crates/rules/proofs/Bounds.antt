@@ -7,7 +7,7 @@ use native.Mathlib.Nat.{le-max_left, le-max_right}
 use native.Mathlib.Omega.{arith}
 use lib.ListN.{length}
 use Rattle.rules.specs.declared.Record.{Record}
-use Rattle.rules.specs.declared.Found.TheVariants.{Nowhere}
+use Rattle.std.specs.Prelude.{None}
 use Rattle.rules.specs.Pass.{pass, first, first_of}
 use Rattle.rules.specs.Table.{Memory, is_tracked, half_down, half_up, has_key, key_record, places, fresh_memory, with_gauge, with_table, write}
 use Rattle.rules.specs.Steps.{raised, track, evict}
@@ -34,7 +34,7 @@ unfolding evict raised track write with_table with_gauge
 evict_covers_victim m key w i v = le-max_right m.gauge.ceiling v.heat
 
 -- ---- nothing is tracked at first, not even key 0
-pub fresh_untracked : (m : Memory) (key n : ℕ) → key_record key (places (fresh_memory m)) n ≡ Nowhere
+pub fresh_untracked : (m : Memory) (key n : ℕ) → key_record key (places (fresh_memory m)) n ≡ None
 unfolding key_record first_of pass first places fresh_memory has_key is_tracked
 fresh_untracked m key zero = refl
 fresh_untracked m key (suc n) = rw (fresh_untracked m key n, record_zero (length m.table) n)

@@ -8,8 +8,8 @@ use native.Mathlib.Omega.{arith}
 use borrow.Author.Tests.{ltb-true, ltb-false}
 use lib.Dec.{ltb}
 use Rattle.rules.specs.declared.Record.{Record}
-use Rattle.rules.specs.declared.Found.{Found}
-use Rattle.rules.specs.declared.Found.TheVariants.{Nowhere, At}
+use Rattle.rules.specs.Pass.{Found}
+use Rattle.std.specs.Prelude.{Some, None}
 use Rattle.rules.specs.Bytes.{line_at}
 use Rattle.std.specs.Prelude.{if◌then◌else◌}
 use Rattle.rules.specs.Table.{Memory, is_lined, line_of, empty_state, filled_state, with_state, with_ticket, with_serial, unlined, on_empty_line, lowest_unused, is_used, coldest_lined, hottest_unlined, hotter, places, size, line_total, with_table, with_gauge, write}
@@ -221,7 +221,7 @@ replace_holds : (m : Memory) (t : Truth) (stale : ℕ → ℕ) (i : ℕ) → m.g
     ((line : ℕ) → line < line_total m → is_used (places m) (size m) line ≡ true) →
     (x : Found) → coldest_lined (places m) (size m) ≡ x → Holds (replace_coldest m i x) t stale
 unfolding replace_coldest hotter
-replace_holds m t stale i few h inside waits used Nowhere e =
+replace_holds m t stale i few h inside waits used None e =
     let low = coldest_missing (places m) (size m) e in
     record {
       sizes = h.sizes;
@@ -232,7 +232,7 @@ replace_holds m t stale i few h inside waits used Nowhere e =
       full = record { none_waits = λ line below unused j j-inside. clash (used line below) unused };
       hottest = record { hottest = λ a b a-inside b-inside lined b-waits. absurd (omega (arith, low a a-inside)) };
     }
-replace_holds m t stale i few h inside waits used (At j r) e = go (ltb r.heat (places m i).heat) refl
+replace_holds m t stale i few h inside waits used (Some (j, r)) e = go (ltb r.heat (places m i).heat) refl
   where
     found : IsAt (places m) (size m) j r (λ s. (1 < s.state) × ((k : ℕ) → k < size m → 1 < (places m k).state → s.heat ≤ (places m k).heat))
     found = coldest_found (places m) (size m) j r e
@@ -425,9 +425,9 @@ module _ (m : Memory) (t : Truth) (stale : ℕ → ℕ) (i : ℕ) (few : m.gauge
 
   demote_for_holds : 1 < (places m i).state → (x : Found) → hottest_unlined (places m) (size m) ≡ x → Holds (demote_for m i x) t stale_after
   unfolding demote_for hotter
-  demote_for_holds lined Nowhere e =
+  demote_for_holds lined None e =
       keeps lined (λ j j-inside waits. absurd (hottest_missing (places m) (size m) e j j-inside waits))
-  demote_for_holds lined (At j r) e = go (ltb (places m i).heat r.heat) refl
+  demote_for_holds lined (Some (j, r)) e = go (ltb (places m i).heat r.heat) refl
     where
       found : IsAt (places m) (size m) j r (λ s. (s.state ≡ 1) × ((k : ℕ) → k < size m → (places m k).state ≡ 1 → (places m k).heat ≤ s.heat))
       found = hottest_found (places m) (size m) j r e

@@ -8,11 +8,12 @@ use lib.ListN.{get_or, replicate}
 use Rattle.rules.specs.declared.Record.{Record}
 use Rattle.rules.specs.declared.Gauge.{Gauge}
 use Rattle.rules.specs.declared.Answer.{Answer}
-use Rattle.rules.specs.declared.Answer.TheVariants.{Aged, Changed, Stored, Passed, Hit, Wanted, Refused}
-use Rattle.rules.specs.declared.Levels.{Levels}
+use Rattle.rules.specs.declared.Answer.TheVariants.{Aged, Changed, Stored, Passed, Hit, Wanted}
+use Rattle.rules.specs.declared.Refusal.TheVariants.{WrongSizes, WrongWeight, NotInOrder, WrongPicture, NoLine, AlreadyFilled, UnknownForm, ShortEnd, StaleTicket, SerialSpent}
+use Rattle.rules.specs.Refusals.{number}
 use Rattle.rules.specs.declared.Entry.{Entry}
-use Rattle.rules.specs.declared.Verdict.{Verdict}
-use Rattle.rules.specs.declared.Verdict.TheVariants.{Accepted}
+use Rattle.rules.specs.Answers.{Reply}
+use Rattle.std.specs.Prelude.{Some, Ok, Err}
 use Rattle.rules.specs.Bytes.{get64, record_size, put_record, line_size, put_gauge}
 use Rattle.rules.specs.Table.{Memory, with_lines, key_record, places, size}
 use Rattle.rules.specs.Steps.{Outcome, outcome, GivesOne}
@@ -35,7 +36,7 @@ abbrev before_row_10 : Memory
 before_row_10 = with_lines (sample_picture 105) (three_records (numbers 5 4 0 2 3) (numbers 7 2 0 1 0) (numbers 11 3 2 1 0) (gauge_of 12 2 3) 1)
 
 -- so that the fill is refused with 5 whatever its ticket
-pub row_10_refused : (ticket : ℕ) → fill_outcome before_row_10 7 (sample_picture 107) ticket ≡ outcome (Refused 5) before_row_10
+pub row_10_refused : (ticket : ℕ) → fill_outcome before_row_10 7 (sample_picture 107) ticket ≡ outcome (Err NoLine) before_row_10
 unfolding computing
 row_10_refused ticket = refl
 
@@ -66,7 +67,7 @@ gauge_of_24 = (refl, refl)
 abbrev two_lines : Memory
 two_lines = three_records (numbers 9 4 0 1 0) (numbers 7 4 0 2 3) (numbers 8 4 0 5 6) (gauge_of 20 0 6) 2
 
-pub second_line_hit : (read_outcome two_lines 8 1).answer ≡ Hit 1
+pub second_line_hit : (read_outcome two_lines 8 1).answer ≡ Ok (Hit 1)
 unfolding computing
 second_line_hit = refl
 
@@ -76,7 +77,7 @@ unfolding computing
 shows_filled = (refl, refl)
 
 -- and a look hits there alone
-pub looks_as_shown : ((read_outcome two_lines 8 0).answer ≡ Hit 1) × (¬ ((read_outcome two_lines 7 0).answer ≡ Hit 0))
+pub looks_as_shown : ((read_outcome two_lines 8 0).answer ≡ Ok (Hit 1)) × (¬ ((read_outcome two_lines 7 0).answer ≡ Ok (Hit 0)))
 looks_as_shown = (
   (peek_shows two_lines 8 1).1 shows_filled.0,
   λ e. let shown = (peek_shows two_lines 7 0).0 e in let hidden = shows_filled.1 in let z : ◌≡◌ {A = ℕ} 0 1 = cc in omega arith,
@@ -97,20 +98,20 @@ unfolding computing
 equal_keeps_line = refl
 
 -- ---- the levelled sum, with a free record: 5 + 2 + 2
-pub levels_summed : levelled_outcome (three_records (numbers 7 5 0 2 3) (numbers 8 1 0 1 0) (numbers 0 0 0 0 0) (gauge_of 20 2 4) 1) ≡ Levels.Sum 9
+pub levels_summed : levelled_outcome (three_records (numbers 7 5 0 2 3) (numbers 8 1 0 1 0) (numbers 0 0 0 0 0) (gauge_of 20 2 4) 1) ≡ Ok 9
 unfolding computing
 levels_summed = refl
 
 -- ---- order
-pub free_not_zero : plain_verdict (three_records (numbers 7 4 0 2 3) (numbers 1 0 0 0 0) (numbers 9 4 0 1 0) (gauge_of 20 0 4) 2) ≡ Verdict.Refused 3
+pub free_not_zero : plain_verdict (three_records (numbers 7 4 0 2 3) (numbers 1 0 0 0 0) (numbers 9 4 0 1 0) (gauge_of 20 0 4) 2) ≡ Err NotInOrder
 unfolding computing
 free_not_zero = refl
 
 -- | Doubled keys or lines are not tested
 -- nor tickets
 pub doubled_pass :
-    (plain_verdict (three_records (numbers 7 4 0 2 3) (numbers 7 4 0 1 0) (numbers 9 4 0 1 0) (gauge_of 20 0 4) 2) ≡ Accepted)
-    × (plain_verdict (three_records (numbers 7 4 0 2 3) (numbers 8 4 0 2 3) (numbers 9 4 0 1 0) (gauge_of 20 0 4) 2) ≡ Accepted)
+    (plain_verdict (three_records (numbers 7 4 0 2 3) (numbers 7 4 0 1 0) (numbers 9 4 0 1 0) (gauge_of 20 0 4) 2) ≡ Ok tt)
+    × (plain_verdict (three_records (numbers 7 4 0 2 3) (numbers 8 4 0 2 3) (numbers 9 4 0 1 0) (gauge_of 20 0 4) 2) ≡ Ok tt)
 unfolding computing
 doubled_pass = (refl, refl)
 
@@ -130,12 +131,12 @@ filled_anew = (fill_outcome told_anew 5 (sample_picture 106) 2).after
 
 -- the picture that it fetched is refused and leaves all as it was; the one that it fetches anew is stored and hit
 pub late_fill :
-    ((read_outcome sample_start 5 3).answer ≡ Wanted 0 1)
-    × ((update_outcome told 5 1).answer ≡ Changed)
-    × (fill_outcome changed 5 (sample_picture 105) 1 ≡ outcome (Refused 9) changed)
-    × ((read_outcome changed 5 1).answer ≡ Wanted 0 2)
-    × ((fill_outcome told_anew 5 (sample_picture 106) 2).answer ≡ Stored)
-    × ((read_outcome filled_anew 5 1).answer ≡ Hit 0)
+    ((read_outcome sample_start 5 3).answer ≡ Ok (Wanted 0 1))
+    × ((update_outcome told 5 1).answer ≡ Ok Changed)
+    × (fill_outcome changed 5 (sample_picture 105) 1 ≡ outcome (Err StaleTicket) changed)
+    × ((read_outcome changed 5 1).answer ≡ Ok (Wanted 0 2))
+    × ((fill_outcome told_anew 5 (sample_picture 106) 2).answer ≡ Ok Stored)
+    × ((read_outcome filled_anew 5 1).answer ≡ Ok (Hit 0))
     × (filled_anew.lines ≡ sample_picture 106)
 unfolding computing
 late_fill = (refl, refl, refl, refl, refl, refl, refl)
@@ -147,8 +148,8 @@ late_fill = (refl, refl, refl, refl, refl, refl, refl)
 abbrev lined : ℕ → Memory
 lined serial = three_records (numbers 21 8 1 5 35) (numbers 22 7 2 1 0) (numbers 23 10 3 2 36) (gauge_of 60 4 serial) 2
 
-abbrev leaves : Answer → Record → Record → Record → Gauge → Outcome Answer Memory
-leaves answer x y z gauge = outcome answer (three_records x y z gauge 2)
+abbrev leaves : Answer → Record → Record → Record → Gauge → Outcome Reply Memory
+leaves answer x y z gauge = outcome (Ok answer) (three_records x y z gauge 2)
 
 -- a read takes an unused line
 pub unused_line_ticketed :
@@ -191,9 +192,9 @@ reads_unticketed = (refl, refl, refl, refl)
 -- none by an update of a class without a line or untracked, by a fill or by an aging
 pub others_unticketed :
     (update_outcome (lined 39) 22 3 ≡ leaves Changed (numbers 21 8 1 5 35) (numbers 22 4 2 1 0) (numbers 23 10 3 2 36) (gauge_of 60 4 39))
-    × (update_outcome (lined 39) 24 3 ≡ outcome Answer.Unknown (lined 39))
+    × (update_outcome (lined 39) 24 3 ≡ outcome (Ok Answer.Unknown) (lined 39))
     × (fill_outcome (lined 39) 23 (sample_picture 105) 36
-    ≡ outcome Stored
+    ≡ outcome (Ok Stored)
     (with_lines (sample_picture 105 ++ sample_picture 170)
     (three_records (numbers 21 8 1 5 35) (numbers 22 7 2 1 0) (numbers 23 10 3 3 36) (gauge_of 60 4 39) 2)))
     × (age_outcome (lined 39) ≡ leaves Aged (numbers 21 4 1 5 35) (numbers 22 3 1 1 0) (numbers 23 5 2 2 36) (gauge_of 30 2 39))
@@ -256,7 +257,7 @@ abbrev cleared : ℕ → ℕ → Memory
 cleared k c = record { table = replicate (record_size * k) 0; gauge = gauge_of 0 0 0; lines = replicate (line_size * c) 0 }
 
 -- a line that is not there
-pub names_bite : (ticket : ℕ) → (¬ NamesLine 1 (Hit 1)) × (¬ NamesLine 1 (Wanted 1 ticket)) × (¬ NamesLine 1 (Wanted 0 (2 ^ 64)))
+pub names_bite : (ticket : ℕ) → (¬ NamesLine 1 (Ok (Hit 1))) × (¬ NamesLine 1 (Ok (Wanted 1 ticket))) × (¬ NamesLine 1 (Ok (Wanted 0 (2 ^ 64))))
 names_bite ticket = (
   λ d. omega (arith, (d.hit 1 refl).0),
   λ d. omega (arith, (d.wanted 1 ticket refl).0),
@@ -264,14 +265,14 @@ names_bite ticket = (
 )
 
 -- and a ticket that the bytes do not hold
-abbrev ticket_in : Answer → ℕ
+abbrev ticket_in : Reply → ℕ
 ticket_in a = get_or (values_of a) 0 0
 
 pub tells_bite : (bytes : List ℕ) →
-    (¬ TellsLine 1 (Hit 1) 2001 bytes)
-    × (¬ TellsLine 1 (Hit 1999) 3999 bytes)
-    × (¬ TellsLine 1 (Wanted 1 (get64 bytes 0)) 4001 bytes)
-    × (¬ TellsLine 1 (Wanted 0 (get64 bytes 0 + 1)) 4000 bytes)
+    (¬ TellsLine 1 (Ok (Hit 1)) 2001 bytes)
+    × (¬ TellsLine 1 (Ok (Hit 1999)) 3999 bytes)
+    × (¬ TellsLine 1 (Ok (Wanted 1 (get64 bytes 0))) 4001 bytes)
+    × (¬ TellsLine 1 (Ok (Wanted 0 (get64 bytes 0 + 1))) 4000 bytes)
 unfolding values_of
 tells_bite bytes = (
   λ d. omega (arith, (d.hit (omega arith) (omega arith)).1),
@@ -289,7 +290,7 @@ least_and_most = (
 
 -- ---- the journal, by its bytes
 pub read_by_bytes : entry_at ((1 ∷ 0 ∷ 3 ∷ 1 ∷ 0 ∷ 0 ∷ 0 ∷ 0 ∷ 5 ∷ 0 ∷ 0 ∷ 0 ∷ 0 ∷ 0 ∷ 0 ∷ 128 ∷ []) ++ replicate 72 0) 0
-    ≡ decoded (Entry.Read 9223372036854775813 259) 88
+    ≡ decoded (Some (Ok (Entry.Read 9223372036854775813 259))) 88
 unfolding computing
 read_by_bytes = refl
 
@@ -303,7 +304,7 @@ abbrev second_fill : List ℕ
 second_fill = replicate 88 0 ++ (3 ∷ replicate 7 0) ++ rising 11 8 ++ replicate 64 9 ++ rising 1 8
 
 pub fill_by_bytes :
-    (entry_at second_fill 88 ≡ decoded (Entry.Fill 1301839424133073931 104 578437695752307201) 176)
+    (entry_at second_fill 88 ≡ decoded (Some (Ok (Entry.Fill 1301839424133073931 104 578437695752307201))) 176)
     × (said_at second_fill 88 ≡ said (some 3) (1301839424133073931 ∷ 104 ∷ 578437695752307201 ∷ []))
 unfolding computing said_at form_good form_values
 fill_by_bytes = (refl, refl)
@@ -311,14 +312,14 @@ fill_by_bytes = (refl, refl)
 -- any ticket is of known form
 pub fill_of_any_ticket : (a b c d e f g h : ℕ) →
     entry_at ((3 ∷ replicate 79 0) ++ (a ∷ b ∷ c ∷ d ∷ e ∷ f ∷ g ∷ h ∷ [])) 0
-    ≡ decoded (Entry.Fill 0 16 (get64 (a ∷ b ∷ c ∷ d ∷ e ∷ f ∷ g ∷ h ∷ []) 0)) 88
+    ≡ decoded (Some (Ok (Entry.Fill 0 16 (get64 (a ∷ b ∷ c ∷ d ∷ e ∷ f ∷ g ∷ h ∷ []) 0)))) 88
 unfolding computing
 fill_of_any_ticket a b c d e f g h = refl
 
 -- passed over: a kind of 0; byte 1, byte 7 or the picture's last byte of a read; a fill's weight; an aging's weight or key; byte 80 or
 -- 87 of a read, an update or an aging
 abbrev Unknown : List ℕ → Type 0
-Unknown j = entry_at j 0 ≡ decoded (Entry.Refused 7) 88
+Unknown j = entry_at j 0 ≡ decoded (Some (Err UnknownForm)) 88
 
 pub unknown_forms :
     Unknown (replicate 88 0)
@@ -336,7 +337,7 @@ unknown_forms = (refl, refl, refl, refl, refl, refl, refl, refl, refl, refl, ref
 
 -- | 8 now means 1 to 87 bytes left (document 02)
 pub short_end_stayed_at :
-    (entry_at (replicate 89 0) 88 ≡ decoded (Entry.Refused 8) 88) × (entry_at (replicate 175 0) 88 ≡ decoded (Entry.Refused 8) 88)
+    (entry_at (replicate 89 0) 88 ≡ decoded (Some (Err ShortEnd)) 88) × (entry_at (replicate 175 0) 88 ≡ decoded (Some (Err ShortEnd)) 88)
 unfolding computing
 short_end_stayed_at = (refl, refl)
 
@@ -369,3 +370,18 @@ looks_printed = refl
 pub ten_digits : decimal 4294967295 ≡ 52 ∷ 50 ∷ 57 ∷ 52 ∷ 57 ∷ 54 ∷ 55 ∷ 50 ∷ 57 ∷ 53 ∷ []
 unfolding computing
 ten_digits = refl
+
+-- ---- the paper's number of each refusal
+pub refusals_numbered :
+    (number WrongSizes ≡ 1)
+    × (number WrongWeight ≡ 2)
+    × (number NotInOrder ≡ 3)
+    × (number WrongPicture ≡ 4)
+    × (number NoLine ≡ 5)
+    × (number AlreadyFilled ≡ 6)
+    × (number UnknownForm ≡ 7)
+    × (number ShortEnd ≡ 8)
+    × (number StaleTicket ≡ 9)
+    × (number SerialSpent ≡ 10)
+unfolding number
+refusals_numbered = (refl, refl, refl, refl, refl, refl, refl, refl, refl, refl)

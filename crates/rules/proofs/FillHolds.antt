@@ -9,8 +9,8 @@ use borrow.Author.Tests.{ltb-true, eqb-true, eqb-false, ne_eqb}
 use lib.ListN.{length}
 use lib.Dec.{ltb, eqb}
 use Rattle.rules.specs.declared.Record.{Record}
-use Rattle.rules.specs.declared.Found.{Found}
-use Rattle.rules.specs.declared.Found.TheVariants.{Nowhere, At}
+use Rattle.rules.specs.Pass.{Found}
+use Rattle.std.specs.Prelude.{Some, None}
 use Rattle.rules.specs.declared.Lookup.TheVariants.{Lined, Unlined}
 use Rattle.rules.specs.Bytes.{line_size, line_count, line_at, put_line}
 use Rattle.std.specs.Prelude.{if◌then◌else◌}
@@ -109,8 +109,8 @@ fill_holds m t stale key picture ticket h whole = found (key_record key (places 
   where
     found : (x : Found) → key_record key (places m) (size m) ≡ x → is_refused (store m picture ticket (looked_up x)).answer ≡ false →
         Holds (store m picture ticket (looked_up x)).after (fill_truth t key picture ticket) stale
-    found Nowhere e = λ accepted. absurd (true≢false accepted)
-    found (At i r) e = go (ltb 1 r.state) (eqb (r.state % 2) 1) (eqb ticket r.ticket) refl refl refl
+    found None e = λ accepted. absurd (true≢false accepted)
+    found (Some (i, r)) e = go (ltb 1 r.state) (eqb (r.state % 2) 1) (eqb ticket r.ticket) refl refl refl
       where
         at_i : IsAt (places m) (size m) i r (λ s. (0 < s.state) × (s.key ≡ key))
         at_i = key_found (places m) (size m) key i r e
@@ -136,8 +136,8 @@ unfolding fill_steps lookup looked_up store store_in is_refused is_lined
 late_fill_refused m t stale key picture ticket h late = found (key_record key (places m) (size m)) refl
   where
     found : (x : Found) → key_record key (places m) (size m) ≡ x → is_refused (store m picture ticket (looked_up x)).answer ≡ true
-    found Nowhere e = refl
-    found (At i r) e = go (ltb 1 r.state) (is_filled r) refl
+    found None e = refl
+    found (Some (i, r)) e = go (ltb 1 r.state) (is_filled r) refl
       where
         go : (lined full : Bool) → ltb 1 r.state ≡ lined →
             is_refused (store m picture ticket (if lined then Lined i (line_of r) full r.ticket else Unlined)).answer ≡ true

@@ -7,7 +7,7 @@ use mathlib.Core.Logic.{◌≢◌}
 use native.Mathlib.Omega.{arith}
 use borrow.Author.Tests.{ltb-true, ltb-false, lt-ltb, le-ltb, eqb-true, eqb-false, eq-eqb}
 use Rattle.rules.specs.declared.Record.{Record}
-use Rattle.rules.specs.declared.Found.TheVariants.{Nowhere, At}
+use Rattle.std.specs.Prelude.{Some, None}
 use Rattle.rules.specs.Table.{is_free, is_zero, is_tracked, is_unlined, is_lined, has_key, key_record, free_record, colder, hotter, victim, coldest_lined, hottest_unlined}
 use Rattle.rules.proofs.Searches.{both, clash, first_at, first_nowhere, IsBest, best_at, best_nowhere}
 
@@ -30,14 +30,14 @@ pub record IsAt (f : ℕ → Record) (n i : ℕ) (r : Record) (P : Record → Ty
 
 module _ (f : ℕ → Record) (n : ℕ) where
   -- ---- the key's record
-  pub key_found : (key i : ℕ) (r : Record) → key_record key f n ≡ At i r → IsAt f n i r (λ s. (0 < s.state) × (s.key ≡ key))
+  pub key_found : (key i : ℕ) (r : Record) → key_record key f n ≡ Some (i, r) → IsAt f n i r (λ s. (0 < s.state) × (s.key ≡ key))
   unfolding key_record has_key is_tracked
   key_found key i r e =
       let h = first_at (has_key key) f n i r e in
       let p = both _ _ (ap (has_key key) (sym h.is) ∙ h.passes) in
       record { inside = h.inside; is = h.is; has = (ltb-true _ _ p.0, eqb-true _ _ p.1) }
 
-  pub key_missing : (key : ℕ) → key_record key f n ≡ Nowhere → (j : ℕ) → j < n → 0 < (f j).state → (f j).key ≢ key
+  pub key_missing : (key : ℕ) → key_record key f n ≡ None → (j : ℕ) → j < n → 0 < (f j).state → (f j).key ≢ key
   unfolding key_record has_key is_tracked
   key_missing key e j below tracked same =
       let none = first_nowhere (has_key key) f n e j below in
@@ -45,13 +45,13 @@ module _ (f : ℕ → Record) (n : ℕ) where
       clash found none
 
   -- ---- the first free record
-  pub free_found : (i : ℕ) (r : Record) → free_record f n ≡ At i r → IsAt f n i r (λ s. s.state ≡ 0)
+  pub free_found : (i : ℕ) (r : Record) → free_record f n ≡ Some (i, r) → IsAt f n i r (λ s. s.state ≡ 0)
   unfolding free_record is_free
   free_found i r e =
       let h = first_at is_free f n i r e in
       record { inside = h.inside; is = h.is; has = eqb-true _ _ (ap is_free (sym h.is) ∙ h.passes) }
 
-  pub free_missing : free_record f n ≡ Nowhere → (j : ℕ) → j < n → (f j).state ≢ 0
+  pub free_missing : free_record f n ≡ None → (j : ℕ) → j < n → (f j).state ≢ 0
   unfolding free_record is_free
   free_missing e j below = eqb-false _ _ (first_nowhere is_free f n e j below)
 
@@ -86,11 +86,11 @@ module _ (f : ℕ → Record) (n : ℕ) where
   unfolding hotter
   hotter_never r = le-ltb r.heat r.heat (omega arith)
 
-  pub victim_best : (i : ℕ) (r : Record) → victim f n ≡ At i r → IsBest is_unlined colder f n i r
+  pub victim_best : (i : ℕ) (r : Record) → victim f n ≡ Some (i, r) → IsBest is_unlined colder f n i r
   unfolding victim
   victim_best i r e = best_at is_unlined colder colder_over colder_one_way colder_never f n i r e
 
-  pub victim_found : (i : ℕ) (r : Record) → victim f n ≡ At i r →
+  pub victim_found : (i : ℕ) (r : Record) → victim f n ≡ Some (i, r) →
       IsAt f n i r (λ s. (s.state ≡ 1) × ((j : ℕ) → j < n → (f j).state ≡ 1 → s.heat ≤ (f j).heat))
   unfolding victim colder is_unlined
   victim_found i r e =
@@ -104,15 +104,15 @@ module _ (f : ℕ → Record) (n : ℕ) where
         );
       }
 
-  pub victim_missing : victim f n ≡ Nowhere → (j : ℕ) → j < n → (f j).state ≢ 1
+  pub victim_missing : victim f n ≡ None → (j : ℕ) → j < n → (f j).state ≢ 1
   unfolding victim is_unlined
   victim_missing e j below = eqb-false _ _ (best_nowhere is_unlined colder colder_over colder_one_way colder_never f n e j below)
 
-  pub coldest_best : (i : ℕ) (r : Record) → coldest_lined f n ≡ At i r → IsBest is_lined colder f n i r
+  pub coldest_best : (i : ℕ) (r : Record) → coldest_lined f n ≡ Some (i, r) → IsBest is_lined colder f n i r
   unfolding coldest_lined
   coldest_best i r e = best_at is_lined colder colder_over colder_one_way colder_never f n i r e
 
-  pub coldest_found : (i : ℕ) (r : Record) → coldest_lined f n ≡ At i r →
+  pub coldest_found : (i : ℕ) (r : Record) → coldest_lined f n ≡ Some (i, r) →
       IsAt f n i r (λ s. (1 < s.state) × ((j : ℕ) → j < n → 1 < (f j).state → s.heat ≤ (f j).heat))
   unfolding coldest_lined colder is_lined
   coldest_found i r e =
@@ -126,15 +126,15 @@ module _ (f : ℕ → Record) (n : ℕ) where
         );
       }
 
-  pub coldest_missing : coldest_lined f n ≡ Nowhere → (j : ℕ) → j < n → (f j).state ≤ 1
+  pub coldest_missing : coldest_lined f n ≡ None → (j : ℕ) → j < n → (f j).state ≤ 1
   unfolding coldest_lined is_lined
   coldest_missing e j below = ltb-false _ _ (best_nowhere is_lined colder colder_over colder_one_way colder_never f n e j below)
 
-  pub hottest_best : (i : ℕ) (r : Record) → hottest_unlined f n ≡ At i r → IsBest is_unlined hotter f n i r
+  pub hottest_best : (i : ℕ) (r : Record) → hottest_unlined f n ≡ Some (i, r) → IsBest is_unlined hotter f n i r
   unfolding hottest_unlined
   hottest_best i r e = best_at is_unlined hotter hotter_over hotter_one_way hotter_never f n i r e
 
-  pub hottest_found : (i : ℕ) (r : Record) → hottest_unlined f n ≡ At i r →
+  pub hottest_found : (i : ℕ) (r : Record) → hottest_unlined f n ≡ Some (i, r) →
       IsAt f n i r (λ s. (s.state ≡ 1) × ((j : ℕ) → j < n → (f j).state ≡ 1 → (f j).heat ≤ s.heat))
   unfolding hottest_unlined hotter is_unlined
   hottest_found i r e =
@@ -148,6 +148,6 @@ module _ (f : ℕ → Record) (n : ℕ) where
         );
       }
 
-  pub hottest_missing : hottest_unlined f n ≡ Nowhere → (j : ℕ) → j < n → (f j).state ≢ 1
+  pub hottest_missing : hottest_unlined f n ≡ None → (j : ℕ) → j < n → (f j).state ≢ 1
   unfolding hottest_unlined is_unlined
   hottest_missing e j below = eqb-false _ _ (best_nowhere is_unlined hotter hotter_over hotter_one_way hotter_never f n e j below)

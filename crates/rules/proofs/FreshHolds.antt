@@ -8,14 +8,12 @@ use native.Mathlib.Omega.{arith}
 use borrow.Author.Tests.{eq-eqb, le-leb, lt-ltb}
 use lib.ListN.{length, replicate, length-replicate}
 use Rattle.rules.specs.declared.Record.{Record}
-use Rattle.rules.specs.declared.Completion.{Completion}
-use Rattle.rules.specs.declared.Completion.TheVariants.{Done}
-use Rattle.rules.specs.declared.Verdict.{Verdict}
-use Rattle.rules.specs.declared.Verdict.TheVariants.{Accepted}
+use Rattle.rules.specs.Answers.{Completion}
+use Rattle.std.specs.Prelude.{Ok, Err}
 use Rattle.rules.specs.Bytes.{get64, record_size, record_count, line_size, line_at, line_count, gauge_size, gauge_at}
 use Rattle.rules.specs.Pass.{sum_where}
 use Rattle.rules.specs.Table.{Memory, is_free, is_zero, filled_state, places, size, line_total, fresh_gauge, fresh_memory}
-use Rattle.rules.specs.Steps.{outcome, level}
+use Rattle.rules.specs.Steps.{Outcome, outcome, level}
 use Rattle.rules.specs.Calls.{most_records, sizes_good, sizes_test, OfSizes, verdict, unless, fresh_outcome, host_lent, held}
 use Rattle.rules.specs.Replay.{unheard}
 use Rattle.rules.proofs.Words.{IsBytes}
@@ -107,25 +105,25 @@ module _ (m : Memory) where
         hottest = record { hottest = λ i j _ _ lined. absurd (omega (arith, zero_state i)) };
       }
 
-  pub fresh_holds : (fresh_outcome m).answer ≡ Done → Holds (fresh_outcome m).after (unheard (size m)) (λ key. 0)
+  pub fresh_holds : (fresh_outcome m).answer ≡ Ok tt → Holds (fresh_outcome m).after (unheard (size m)) (λ key. 0)
   unfolding fresh_outcome sizes_test unless
   fresh_holds done = go (verdict (sizes_test m ∷ [])) refl done
     where
-      go : (v : Verdict) → verdict (sizes_test m ∷ []) ≡ v →
-          (unless v (λ n. outcome (Completion.Refused n) m) (outcome Done (fresh_memory m))).answer ≡ Done →
-          Holds (unless v (λ n. outcome (Completion.Refused n) m) (outcome Done (fresh_memory m))).after (unheard (size m)) (λ key. 0)
-      go Accepted e d = fresh_kept (first_passes _ _ e).0
-      go (Verdict.Refused n) e d = let z : ◌≡◌ {A = ℕ} 0 1 = cc in absurd (omega arith)
+      go : (v : Completion) → verdict (sizes_test m ∷ []) ≡ v →
+          (unless {Given = Outcome Completion Memory} v (λ n. outcome (Err n) m) (outcome (Ok tt) (fresh_memory m))).answer ≡ Ok tt →
+          Holds (unless {Given = Outcome Completion Memory} v (λ n. outcome (Err n) m) (outcome (Ok tt) (fresh_memory m))).after (unheard (size m)) (λ key. 0)
+      go (Ok u) e d = fresh_kept (first_passes _ _ e).0
+      go (Err n) e d = let z : ◌≡◌ {A = ℕ} 0 1 = cc in absurd (omega arith)
 
   -- | [The serial] is 0 in a fresh table
-  pub fresh_serial : (fresh_outcome m).answer ≡ Done → (fresh_outcome m).after.gauge.serial ≡ 0
+  pub fresh_serial : (fresh_outcome m).answer ≡ Ok tt → (fresh_outcome m).after.gauge.serial ≡ 0
   unfolding fresh_outcome unless fresh_memory fresh_gauge
   fresh_serial done = go (verdict (sizes_test m ∷ [])) done
     where
-      go : (v : Verdict) → (unless v (λ n. outcome (Completion.Refused n) m) (outcome Done (fresh_memory m))).answer ≡ Done →
-          (unless v (λ n. outcome (Completion.Refused n) m) (outcome Done (fresh_memory m))).after.gauge.serial ≡ 0
-      go Accepted d = refl
-      go (Verdict.Refused n) d = let z : ◌≡◌ {A = ℕ} 0 1 = cc in absurd (omega arith)
+      go : (v : Completion) → (unless {Given = Outcome Completion Memory} v (λ n. outcome (Err n) m) (outcome (Ok tt) (fresh_memory m))).answer ≡ Ok tt →
+          (unless {Given = Outcome Completion Memory} v (λ n. outcome (Err n) m) (outcome (Ok tt) (fresh_memory m))).after.gauge.serial ≡ 0
+      go (Ok u) d = refl
+      go (Err n) d = let z : ◌≡◌ {A = ℕ} 0 1 = cc in absurd (omega arith)
 
   -- ---- every K and C of the paper
   module _ (k c : ℕ) (sized : OfSizes m k c) where
@@ -150,7 +148,7 @@ module _ (m : Memory) where
     unfolding size record_count
     size_of = rw sized.table (omega arith)
 
-    pub fresh_accepts : (fresh_outcome m).answer ≡ Done
+    pub fresh_accepts : (fresh_outcome m).answer ≡ Ok tt
     unfolding fresh_outcome sizes_test verdict unless
     fresh_accepts = rw fresh_sized
 

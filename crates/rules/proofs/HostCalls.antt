@@ -10,11 +10,12 @@ use native.Mathlib.Omega.{arith}
 use borrow.Author.Tests.{eqb-true, ne_eqb}
 use lib.ListN.{length, replicate}
 use lib.Dec.{eqb}
-use Rattle.rules.specs.declared.Answer.{Answer}
-use Rattle.rules.specs.declared.Completion.TheVariants.{Done}
+use Rattle.std.specs.Prelude.{Ok}
+use Rattle.rules.specs.declared.Refusal.TheVariants.{WrongSizes}
+use Rattle.rules.specs.Refusals.{number}
 use Rattle.rules.specs.Bytes.{number_size, get64, put64, gauge_size, gauge_at}
 use Rattle.rules.specs.Table.{Memory, fresh_gauge, fresh_memory}
-use Rattle.rules.specs.Answers.{number_of, completion_number}
+use Rattle.rules.specs.Answers.{Reply, number_of, completion_number}
 use Rattle.rules.specs.Steps.{Outcome, outcome, levelled_sum}
 use Rattle.rules.specs.Calls.{must, sizes_good, order_good, verdict, unless, sizes_test, order_test, plain_verdict, fresh_outcome, levelled_outcome, HostRead, hosted_read, exported_read, HostMemory, host_lent, held, stored, gauge_test, exported_fresh, number_test, put_levels, exported_sum}
 use Rattle.rules.proofs.Words.{IsBytes}
@@ -32,10 +33,10 @@ module _ (h : HostMemory) where
   zeroed = host_lent (replicate (length h.table) 0) (replicate gauge_size 0) h.lines
 
   abbrev fresh_told : Outcome ℕ HostMemory
-  fresh_told = unless (verdict (gauge_test h ∷ sizes_test (held h) ∷ [])) (λ n. outcome n h) (outcome 0 zeroed)
+  fresh_told = unless (verdict (gauge_test h ∷ sizes_test (held h) ∷ [])) (λ cause. outcome (number cause) h) (outcome 0 zeroed)
 
   pub host_fresh : IsBytes h.gauge → exported_fresh h ≡ fresh_told
-  unfolding exported_fresh fresh_outcome verdict gauge_test sizes_test unless completion_number held stored fresh_memory
+  unfolding exported_fresh fresh_outcome verdict gauge_test sizes_test unless completion_number number held stored fresh_memory
   host_fresh bytes = go sized good refl refl
     where
       go : (a b : Bool) → sized ≡ a → good ≡ b → exported_fresh h ≡ fresh_told
@@ -45,12 +46,12 @@ module _ (h : HostMemory) where
 
   -- told 0, a host holds what fresh leaves
   pub host_starts : (exported_fresh h).answer ≡ 0 →
-      ((fresh_outcome (held h)).answer ≡ Done) × (held (exported_fresh h).after ≡ (fresh_outcome (held h)).after)
-  unfolding exported_fresh fresh_outcome verdict gauge_test sizes_test unless completion_number held stored fresh_memory fresh_gauge gauge_at get64
+      ((fresh_outcome (held h)).answer ≡ Ok tt) × (held (exported_fresh h).after ≡ (fresh_outcome (held h)).after)
+  unfolding exported_fresh fresh_outcome verdict gauge_test sizes_test unless completion_number number held stored fresh_memory fresh_gauge gauge_at get64
   host_starts told = go sized good refl refl
     where
       go : (a b : Bool) → sized ≡ a → good ≡ b →
-          ((fresh_outcome (held h)).answer ≡ Done) × (held (exported_fresh h).after ≡ (fresh_outcome (held h)).after)
+          ((fresh_outcome (held h)).answer ≡ Ok tt) × (held (exported_fresh h).after ≡ (fresh_outcome (held h)).after)
       go false b ea eb = absurd (omega (arith, rw ea at told))
       go true false ea eb = absurd (omega (arith, rw (ea, eb) at told))
       go true true ea eb = (rw eb, rw (ea, eb, gauge_zeroed h.gauge (eqb-true (length h.gauge) gauge_size ea)))
@@ -59,11 +60,11 @@ module _ (h : HostMemory) where
   module _ (sum : List ℕ) where
     abbrev sum_told : Outcome ℕ (List ℕ)
     sum_told =
-        unless (verdict (gauge_test h ∷ must (eqb (length sum) 8) 1 ∷ sizes_test (held h) ∷ order_test (held h) ∷ [])) (λ n. outcome n sum)
+        unless (verdict (gauge_test h ∷ must (eqb (length sum) 8) WrongSizes ∷ sizes_test (held h) ∷ order_test (held h) ∷ [])) (λ cause. outcome (number cause) sum)
         (outcome 0 (put64 sum 0 (levelled_sum (held h))))
 
     pub host_sum : exported_sum h sum ≡ sum_told
-    unfolding exported_sum levelled_outcome plain_verdict verdict gauge_test number_test sizes_test order_test unless put_levels held
+    unfolding exported_sum levelled_outcome plain_verdict verdict gauge_test number_test sizes_test order_test unless put_levels number held
     host_sum = go sized (eqb (length sum) number_size) good (order_good (held h)) refl refl refl refl
       where
         go : (a b c d : Bool) → sized ≡ a → eqb (length sum) number_size ≡ b → good ≡ c → order_good (held h) ≡ d → exported_sum h sum ≡ sum_told
@@ -74,6 +75,6 @@ module _ (h : HostMemory) where
         go true true true true ea eb ec ed = rw (ea, eb, ec, ed)
 
 -- | an exported read lends 8 more bytes (another length gives 1)
-pub ticket_length : (call : Memory → Outcome Answer Memory) (h : HostRead) → length h.ticket ≢ 8 → exported_read call h ≡ outcome 1 h
-unfolding exported_read hosted_read verdict number_test unless number_of
+pub ticket_length : (call : Memory → Outcome Reply Memory) (h : HostRead) → length h.ticket ≢ 8 → exported_read call h ≡ outcome 1 h
+unfolding exported_read hosted_read verdict number_test unless number_of number
 ticket_length call h other = rw (ne_eqb (length h.ticket) number_size other)

@@ -12,7 +12,7 @@ use borrow.Author.Tests.{lt-ltb, le-ltb, le-leb, eq-eqb, ltb-false, leb-true}
 use lib.Dec.{ltb, eqb}
 use Rattle.rules.specs.declared.Record.{Record}
 use Rattle.rules.specs.declared.Gauge.{Gauge}
-use Rattle.rules.specs.declared.Found.TheVariants.{Nowhere}
+use Rattle.std.specs.Prelude.{None}
 use Rattle.std.specs.Prelude.{if◌then◌else◌}
 use Rattle.rules.specs.Pass.{pass, sum_of, count_of}
 use Rattle.rules.specs.Table.{is_tracked, is_lined, is_zero, line_of, record_in_order, in_order, free_record, victim, most_total}
@@ -150,7 +150,7 @@ in_order_says f n c g e =
     }
 
 -- the order by which a victim is chosen
-pub has_victim : (f : ℕ → Record) (n c : ℕ) → count_of is_lined f n ≤ c → c < n → free_record f n ≡ Nowhere → victim f n ≢ Nowhere
+pub has_victim : (f : ℕ → Record) (n c : ℕ) → count_of is_lined f n ≤ c → c < n → free_record f n ≡ None → victim f n ≢ None
 unfolding is_lined
 has_victim f n c most fewer no-free no-victim =
     let (i, inside, not-lined) = count_below is_lined f n (omega arith) in

@@ -10,19 +10,17 @@ use borrow.Author.Tests.{ne_eqb, le-leb, lt-leb}
 use lib.ListN.{length}
 use lib.Dec.{ltb, leb, eqb}
 use Rattle.rules.specs.declared.Record.{Record}
-use Rattle.rules.specs.declared.Found.{Found}
-use Rattle.rules.specs.declared.Found.TheVariants.{Nowhere, At}
-use Rattle.rules.specs.declared.Verdict.{Verdict}
-use Rattle.rules.specs.declared.Verdict.TheVariants.{Accepted}
+use Rattle.rules.specs.Pass.{Found}
+use Rattle.std.specs.Prelude.{Some, None}
+use Rattle.rules.specs.Answers.{Completion}
+use Rattle.std.specs.Prelude.{Ok, Err}
 use Rattle.rules.specs.declared.Lookup.TheVariants.{Unlined, Lined}
-use Rattle.rules.specs.declared.Completion.{Completion}
-use Rattle.rules.specs.declared.Levels.{Levels}
-use Rattle.rules.specs.declared.Answer.{Answer}
-use Rattle.rules.specs.declared.Entry.{Entry}
-use Rattle.rules.specs.declared.Entry.TheVariants.{Read, Update, Fill, Age, Done}
+use Rattle.rules.specs.declared.Refusal.TheVariants.{ShortEnd, StaleTicket}
+use Rattle.rules.specs.Refusals.{number}
+use Rattle.rules.specs.declared.Entry.TheVariants.{Read, Update, Fill, Age}
 use Rattle.std.specs.Prelude.{if◌then◌else◌}
 use Rattle.rules.specs.Table.{Memory, is_lined, is_filled, line_of, key_record, looked_up, lookup, places, size, fresh_memory}
-use Rattle.rules.specs.Answers.{number_of, said, completion_said, levels_said, lookup_said, entry_said, no_line, already_filled, stale_ticket, unknown_form, short_end, read_kind, update_kind, fill_kind, age_kind}
+use Rattle.rules.specs.Answers.{answer_number, number_of, said, completion_said, levels_said, lookup_said, entry_said, Reply, read_kind, update_kind, fill_kind, age_kind}
 use Rattle.rules.specs.Steps.{Outcome, outcome, age_steps, change, update_steps, store_in, store, fill_steps, levelled_sum}
 use Rattle.rules.specs.Calls.{unless, leaving, verdict, sizes_test, plain_verdict, update_verdict, fill_verdict, fresh_outcome, age_outcome, update_outcome, fill_outcome, levelled_outcome}
 use Rattle.rules.specs.Journal.{entry_size, kind_at, weight_at, key_at, picture_place, ticket_at, gaps_zero, picture_zero, weight_zero, key_zero, ticket_zero, of_form, whole_entry, decoded, entry_at}
@@ -30,54 +28,54 @@ use Rattle.rules.specs.Numbers.{refusal, age_number, change_number, update_numbe
 
 -- ---- by the tests
 -- a refused call's number is its verdict's, an accepted one's is its steps'
-pub unless_number : (v : Verdict) (m : Memory) (given : Outcome Answer Memory) (n : ℕ) → number_of given.answer ≡ n →
-    number_of (unless v (leaving m) given).answer ≡ unless v (λ k. k) n
-unfolding unless number_of
-unless_number Accepted m given n e = e
-unless_number (Verdict.Refused k) m given n e = refl
+pub unless_number : (v : Completion) (m : Memory) (given : Outcome Reply Memory) (n : ℕ) → number_of given.answer ≡ n →
+    number_of (unless v (leaving m) given).answer ≡ unless v number n
+unfolding unless number_of answer_number
+unless_number (Ok u) m given n e = e
+unless_number (Err k) m given n e = refl
 
 pub age_number_lem : (m : Memory) → number_of (age_outcome m).answer ≡ age_number m
-unfolding age_outcome age_number age_steps number_of
+unfolding age_outcome age_number age_steps number_of answer_number
 age_number_lem m = unless_number (plain_verdict m) m (age_steps m) 100 refl
 
 pub update_number_lem : (m : Memory) (key w : ℕ) → number_of (update_outcome m key w).answer ≡ update_number m key w
-unfolding update_outcome update_number update_steps change change_number number_of
+unfolding update_outcome update_number update_steps change change_number number_of answer_number
 update_number_lem m key w =
     unless_number (update_verdict m w) m (update_steps m key w) _ (changes (key_record key (places m) (size m)))
   where
     changes : (x : Found) → number_of (change m w x).answer ≡ change_number x
-    changes Nowhere = refl
-    changes (At i r) = refl
+    changes None = refl
+    changes (Some (i, r)) = refl
 
 pub fresh_said_lem : (m : Memory) → completion_said (fresh_outcome m).answer ≡ fresh_said m
 unfolding fresh_outcome fresh_said unless completion_said
 fresh_said_lem m = go (verdict (sizes_test m ∷ []))
   where
-    go : (v : Verdict) →
-        completion_said (unless v (λ n. outcome (Completion.Refused n) m) (outcome Completion.Done (fresh_memory m))).answer
-        ≡ unless v refusal (said none [])
-    go Accepted = refl
-    go (Verdict.Refused n) = refl
+    go : (v : Completion) →
+        completion_said (unless v (λ n. outcome (Err n) m) (outcome (Ok tt) (fresh_memory m))).answer
+        ≡ unless v (λ cause. refusal (number cause)) (said none [])
+    go (Ok u) = refl
+    go (Err n) = refl
 
 pub levelled_said_lem : (m : Memory) → levels_said (levelled_outcome m) ≡ levelled_said m
 unfolding levelled_outcome levelled_said unless levels_said
 levelled_said_lem m = go (plain_verdict m)
   where
-    go : (v : Verdict) → levels_said (unless v Levels.Refused (Levels.Sum (levelled_sum m))) ≡ unless v refusal (said none (levelled_sum m ∷ []))
-    go Accepted = refl
-    go (Verdict.Refused n) = refl
+    go : (v : Completion) → levels_said (unless v Err (Ok (levelled_sum m))) ≡ unless v (λ cause. refusal (number cause)) (said none (levelled_sum m ∷ []))
+    go (Ok u) = refl
+    go (Err n) = refl
 
 -- ---- by what is found
 looked_up_said : (x : Found) → lookup_said (looked_up x) ≡ key_said x
-unfolding looked_up lookup_said key_said is_filled
-looked_up_said Nowhere = refl
-looked_up_said (At i r) = go (is_lined r) (eqb (r.state % 2) 1)
+unfolding looked_up lookup_said key_said is_filled number
+looked_up_said None = refl
+looked_up_said (Some (i, r)) = go (is_lined r) (eqb (r.state % 2) 1)
   where
     go : (lined odd : Bool) →
         lookup_said (if lined then Lined i (line_of r) (lined && odd) r.ticket else Unlined)
         ≡ (if lined && odd
-        then said (some already_filled) (i ∷ line_of r ∷ r.ticket ∷ [])
-        else if lined then said none (i ∷ line_of r ∷ r.ticket ∷ []) else refusal no_line)
+        then said (some 6) (i ∷ line_of r ∷ r.ticket ∷ [])
+        else if lined then said none (i ∷ line_of r ∷ r.ticket ∷ []) else refusal 5)
     go true true = refl
     go true false = refl
     go false odd = refl
@@ -88,12 +86,12 @@ lookup_said_lem f n key = looked_up_said (key_record key f n)
 
 store_number_lem : (m : Memory) (picture : List ℕ) (ticket : ℕ) (x : Found) →
     number_of (store m picture ticket (looked_up x)).answer ≡ store_number ticket x
-unfolding looked_up store store_in store_number is_filled number_of
-store_number_lem m picture ticket Nowhere = refl
-store_number_lem m picture ticket (At i r) = go (is_lined r) (eqb (r.state % 2) 1)
+unfolding looked_up store store_in store_number is_filled number_of answer_number number
+store_number_lem m picture ticket None = refl
+store_number_lem m picture ticket (Some (i, r)) = go (is_lined r) (eqb (r.state % 2) 1)
   where
     brought : (same : Bool) →
-        number_of (if same then store_in m i (line_of r) picture else outcome (Answer.Refused stale_ticket) m).answer ≡ (if same then 103 else 9)
+        number_of (if same then store_in m i (line_of r) picture else outcome (Err StaleTicket) m).answer ≡ (if same then 103 else 9)
     brought true = refl
     brought false = refl
 
@@ -116,13 +114,13 @@ module _ (k w place brought : ℕ) where
   abbrev KindSaid : ℕ → Bool → Bool → Bool → Bool → Bool → Type 0
   KindSaid kind gaps weight picture ticket key =
       entry_said
-      (if eqb kind read_kind
+      (Some (if eqb kind read_kind
       then of_form (gaps && picture && ticket) (Read k w)
       else if eqb kind update_kind
       then of_form (gaps && picture && ticket) (Update k w)
       else if eqb kind fill_kind
       then of_form (gaps && weight) (Fill k place brought)
-      else of_form (eqb kind age_kind && gaps && weight && picture && key && ticket) Age)
+      else of_form (eqb kind age_kind && gaps && weight && picture && key && ticket) Age))
       ≡ (if leb 1 kind
       && leb kind 4
       && gaps
@@ -131,30 +129,30 @@ module _ (k w place brought : ℕ) where
       && (eqb kind 3 || ticket)
       && (leb kind 3 || key)
       then said (some kind) (if leb kind 2 then k ∷ w ∷ [] else if eqb kind 3 then k ∷ place ∷ brought ∷ [] else [])
-      else refusal unknown_form)
+      else refusal 7)
 
   read_said_lem : (gaps weight picture ticket key : Bool) → KindSaid 1 gaps weight picture ticket key
-  unfolding entry_said of_form
+  unfolding entry_said of_form number
   read_said_lem false weight picture ticket key = refl
   read_said_lem true weight false ticket key = refl
   read_said_lem true weight true false key = refl
   read_said_lem true weight true true key = refl
 
   update_said : (gaps weight picture ticket key : Bool) → KindSaid 2 gaps weight picture ticket key
-  unfolding entry_said of_form
+  unfolding entry_said of_form number
   update_said false weight picture ticket key = refl
   update_said true weight false ticket key = refl
   update_said true weight true false key = refl
   update_said true weight true true key = refl
 
   fill_said : (gaps weight picture ticket key : Bool) → KindSaid 3 gaps weight picture ticket key
-  unfolding entry_said of_form
+  unfolding entry_said of_form number
   fill_said false weight picture ticket key = refl
   fill_said true false picture ticket key = refl
   fill_said true true picture ticket key = refl
 
   age_said : (gaps weight picture ticket key : Bool) → KindSaid 4 gaps weight picture ticket key
-  unfolding entry_said of_form
+  unfolding entry_said of_form number
   age_said false weight picture ticket key = refl
   age_said true false picture ticket key = refl
   age_said true true false ticket key = refl
@@ -164,7 +162,7 @@ module _ (k w place brought : ℕ) where
   age_said true true true true true = refl
 
   other_said : (kind : ℕ) (gaps weight picture ticket key : Bool) → 4 < kind → KindSaid kind gaps weight picture ticket key
-  unfolding entry_said of_form
+  unfolding entry_said of_form number
   other_said kind gaps weight picture ticket key over =
       rw (
         ne_eqb kind 1 (omega arith),
@@ -176,7 +174,7 @@ module _ (k w place brought : ℕ) where
       )
 
   kind_said : (kind : ℕ) (gaps weight picture ticket key : Bool) → KindSaid kind gaps weight picture ticket key
-  unfolding entry_said of_form
+  unfolding entry_said of_form number
   kind_said zero gaps weight picture ticket key = refl
   kind_said (suc zero) gaps weight picture ticket key = read_said_lem gaps weight picture ticket key
   kind_said (suc (suc zero)) gaps weight picture ticket key = update_said gaps weight picture ticket key
@@ -186,16 +184,16 @@ module _ (k w place brought : ℕ) where
       other_said (suc (suc (suc (suc (suc n))))) gaps weight picture ticket key (omega arith)
 
 pub entry_said_lem : (j : List ℕ) (at : ℕ) → entry_said (entry_at j at).entry ≡ said_at j at
-unfolding entry_at decoded whole_entry said_at form_good form_values entry_said
+unfolding entry_at decoded whole_entry said_at form_good form_values entry_said number
 entry_said_lem j at = go (leb (length j) at) (ltb (length j - at) entry_size)
   where
     go : (none_left few : Bool) →
-        entry_said (if none_left then decoded Done at else if few then decoded (Entry.Refused short_end) at else decoded (whole_entry j at) (at + entry_size)).entry
+        entry_said (if none_left then decoded None at else if few then decoded (Some (Err ShortEnd)) at else decoded (Some (whole_entry j at)) (at + entry_size)).entry
         ≡ (if none_left
         then said none []
         else if few
-        then refusal short_end
-        else if form_good j at then said (some (kind_at j at)) (form_values j at) else refusal unknown_form)
+        then refusal 8
+        else if form_good j at then said (some (kind_at j at)) (form_values j at) else refusal 7)
     go true few = refl
     go false true = refl
     go false false =

@@ -12,22 +12,39 @@ use borrow.Author.Tests.{lt-ltb, le-ltb, le-leb, lt-leb}
 use lib.Dec.{eqb}
 use lib.ListN.{length, get_or, take, drop, length-append, length-drop, get_or-append}
 use lib.Seq.{get_or-append-add, take-append-le, drop-append-le, drop-append-add}
+use Rattle.std.specs.Prelude.{Option, Some, None, Result, Ok, is_none}
+use Rattle.rules.specs.declared.Decoded.{Decoded}
+use Rattle.rules.specs.declared.Refusal.{Refusal}
+use Rattle.rules.specs.declared.Answer.TheVariants.{Passed}
+use Rattle.rules.specs.Answers.{Reply}
+use Rattle.rules.specs.Steps.{Outcome, outcome}
 use Rattle.rules.specs.declared.Entry.{Entry}
 use Rattle.rules.specs.declared.Entry.TheVariants.{Read, Update, Fill, Age}
 use Rattle.rules.specs.Answers.{read_kind, update_kind, fill_kind}
 use Rattle.rules.specs.Bytes.{get64, line_size}
 use Rattle.std.specs.Prelude.{if◌then◌else◌}
 use Rattle.rules.specs.Table.{Memory}
-use Rattle.rules.specs.Journal.{Row, Run, entry_size, entry_count, kind_at, weight_at, key_at, ticket_at, zeros, gaps_zero, picture_zero, weight_zero, key_zero, ticket_zero, picture_place, picture_at, of_form, whole_entry, decoded, entry_at, row_of, printing, performed, is_end, perform, run_for, going_on, Joined}
+use Rattle.rules.specs.Journal.{Row, Run, entry_size, entry_count, kind_at, weight_at, key_at, ticket_at, zeros, gaps_zero, picture_zero, weight_zero, key_zero, ticket_zero, picture_place, picture_at, of_form, whole_entry, decoded, entry_at, row_of, printing, performed, carried, perform, run_for, going_on, Joined}
 
 -- ---- one record, at p of a journal and at q of another
+-- what is done with it, where there is one
+done : List ℕ → Option (Result Entry Refusal) → Memory → Outcome Reply Memory
+done j None m = outcome (Ok Passed) m
+done j (Some entry) m = performed j entry m
+
+carried_is : (j : List ℕ) (r : Run) (next : ℕ) (x : Option (Result Entry Refusal)) →
+    carried j r next x ≡ (if is_none x then r else printing r next (done j x r.memory))
+unfolding carried done
+carried_is j r next None = refl
+carried_is j r next (Some entry) = refl
+
 -- both do the same, and the place after it differs by as much as the place before
 record Alike (j : List ℕ) (p : ℕ) (k : List ℕ) (q shift : ℕ) : Type 0 where
-  ends : is_end (entry_at j p).entry ≡ is_end (entry_at k q).entry
+  ends : is_none (entry_at j p).entry ≡ is_none (entry_at k q).entry
   next : (entry_at j p).next ≡ shift + (entry_at k q).next
-  does : (m : Memory) → performed j (entry_at j p).entry m ≡ performed k (entry_at k q).entry m
+  does : (m : Memory) → done j (entry_at j p).entry m ≡ done k (entry_at k q).entry m
 
-whole : (j : List ℕ) (p : ℕ) → p + entry_size ≤ length j → entry_at j p ≡ decoded (whole_entry j p) (p + entry_size)
+whole : (j : List ℕ) (p : ℕ) → p + entry_size ≤ length j → entry_at j p ≡ decoded (Some (whole_entry j p)) (p + entry_size)
 unfolding entry_at
 whole j p room = rw (lt-leb (length j) p (omega arith), le-ltb (length j - p) entry_size (omega arith))
 
@@ -79,36 +96,36 @@ module _ (j : List ℕ) (p : ℕ) (k : List ℕ) (q : ℕ) (same : (i : ℕ) →
   unfolding picture_zero picture_place
   blank_same = zeros_same 16 line_size (omega arith)
 
-  abbrev Same : Entry → Entry → Type 0
-  Same x y = (is_end x ≡ is_end y) × ((m : Memory) → performed j x m ≡ performed k y m)
+  abbrev Same : Result Entry Refusal → Result Entry Refusal → Type 0
+  Same x y = (m : Memory) → performed j x m ≡ performed k y m
 
-  same_form : (good : Bool) (x y : Entry) → Same x y → Same (of_form good x) (of_form good y)
+  same_form : (good : Bool) (x y : Entry) → Same (Ok x) (Ok y) → Same (of_form good x) (of_form good y)
   unfolding of_form performed
   same_form true x y s = s
-  same_form false x y s = (refl, λ m. refl)
+  same_form false x y s = λ m. refl
 
-  same_arm : (b : Bool) (x y x' y' : Entry) → Same x x' → Same y y' → Same (if b then x else y) (if b then x' else y')
+  same_arm : (b : Bool) (x y x' y' : Result Entry Refusal) → Same x x' → Same y y' → Same (if b then x else y) (if b then x' else y')
   same_arm true x y x' y' first rest = first
   same_arm false x y x' y' first rest = rest
 
   whole_same : Same (whole_entry j p) (whole_entry k q)
-  unfolding whole_entry weight_zero key_zero ticket_zero is_end performed
+  unfolding whole_entry weight_zero key_zero ticket_zero performed
   whole_same =
       rw (← kind_same, ← gaps_same, ← blank_same, ← weight_same, ← key_same, ← ticket_same)
-      (same_arm (eqb (kind_at j p) read_kind) _ _ _ _ (same_form _ (Read _ _) (Read _ _) (refl, λ m. refl))
-      (same_arm (eqb (kind_at j p) update_kind) _ _ _ _ (same_form _ (Update _ _) (Update _ _) (refl, λ m. refl))
-      (same_arm (eqb (kind_at j p) fill_kind) _ _ _ _ (same_form _ (Fill _ _ _) (Fill _ _ _) (refl, λ m. rw picture))
-      (same_form _ Age Age (refl, λ m. refl)))))
+      (same_arm (eqb (kind_at j p) read_kind) _ _ _ _ (same_form _ (Read _ _) (Read _ _) (λ m. refl))
+      (same_arm (eqb (kind_at j p) update_kind) _ _ _ _ (same_form _ (Update _ _) (Update _ _) (λ m. refl))
+      (same_arm (eqb (kind_at j p) fill_kind) _ _ _ _ (same_form _ (Fill _ _ _) (Fill _ _ _) (λ m. rw picture))
+      (same_form _ Age Age (λ m. refl)))))
 
   whole_alike : (shift : ℕ) → p ≡ shift + q → p + entry_size ≤ length j → q + entry_size ≤ length k → Alike j p k q shift
-  unfolding decoded
+  unfolding decoded done
   whole_alike shift further room room' =
       let here = whole j p room in
       let there = whole k q room' in
       record {
-        ends = rw (here, there) whole_same.0;
+        ends = rw (here, there);
         next = rw (here, there) (omega arith);
-        does = λ m. rw (here, there) (whole_same.1 m);
+        does = λ m. rw (here, there) (whole_same m);
       }
 
 -- ---- a journal of two pieces
@@ -122,7 +139,7 @@ module _ (a b : List ℕ) where
       0 (omega arith) inside room
 
   rest_alike : (q : ℕ) → Alike (a ++ b) (length a + q) b q (length a)
-  unfolding entry_at decoded performed picture_at picture_place
+  unfolding entry_at decoded done performed picture_at picture_place
   rest_alike q =
       elim (dec_lt q (length b)) [
         | no none ↦
@@ -160,13 +177,17 @@ module _ (j k : List ℕ) (shift : ℕ) (before : List Row) where
   step_keeps : (r s : Run) → Alike j r.at k s.at shift → Keeps shift before r s →
       Keeps shift before (perform j r (entry_at j r.at)) (perform k s (entry_at k s.at))
   unfolding perform printing row_of
-  step_keeps r s alike keeps = go (is_end (entry_at k s.at).entry) refl
+  step_keeps r s alike keeps =
+      rw (carried_is j r _ (entry_at j r.at).entry, carried_is k s _ (entry_at k s.at).entry) (go (is_none (entry_at k s.at).entry) refl)
     where
-      did : performed j (entry_at j r.at).entry r.memory ≡ performed k (entry_at k s.at).entry s.memory
+      did : done j (entry_at j r.at).entry r.memory ≡ done k (entry_at k s.at).entry s.memory
       did = rw keeps.memory (alike.does s.memory)
 
-      go : (b : Bool) → is_end (entry_at k s.at).entry ≡ b →
-          Keeps shift before (perform j r (entry_at j r.at)) (perform k s (entry_at k s.at))
+      step : List ℕ → Run → Decoded → Run
+      step j r d = if is_none d.entry then r else printing r d.next (done j d.entry r.memory)
+
+      go : (b : Bool) → is_none (entry_at k s.at).entry ≡ b →
+          Keeps shift before (step j r (entry_at j r.at)) (step k s (entry_at k s.at))
       go true e = rw (alike.ends ∙ e, e) keeps
       go false e =
           rw (alike.ends ∙ e, e)
@@ -191,28 +212,12 @@ run_on j r n zero = rw add-zero
 run_on j r n (suc more) = rw (add-suc, run_on j r n more)
 
 -- ---- a piece of whole records is run to its end
-form_goes : (good : Bool) (x : Entry) → is_end x ≡ false → is_end (of_form good x) ≡ false
-unfolding of_form is_end
-form_goes true x goes = goes
-form_goes false x goes = refl
-
-arm_goes : (b : Bool) (x y : Entry) → is_end x ≡ false → is_end y ≡ false → is_end (if b then x else y) ≡ false
-arm_goes true x y first rest = first
-arm_goes false x y first rest = rest
-
-whole_goes : (j : List ℕ) (p : ℕ) → is_end (whole_entry j p) ≡ false
-unfolding whole_entry is_end
-whole_goes j p =
-    arm_goes (eqb (kind_at j p) read_kind) _ _ (form_goes _ (Read _ _) refl)
-    (arm_goes (eqb (kind_at j p) update_kind) _ _ (form_goes _ (Update _ _) refl)
-    (arm_goes (eqb (kind_at j p) fill_kind) _ _ (form_goes _ (Fill _ _ _) refl) (form_goes _ Age refl)))
-
 piece_ends : (a : List ℕ) (r : Run) (n : ℕ) → r.at ≡ 0 → entry_size * n ≤ length a → (run_for a r n).at ≡ entry_size * n
-unfolding run_for perform printing decoded
+unfolding run_for perform carried printing decoded
 piece_ends a r zero start room = omega arith
 piece_ends a r (suc n) start room =
     let at = piece_ends a r n start (omega arith) in
-    rw (at, whole a (entry_size * n) (omega arith), whole_goes a (entry_size * n)) (omega arith)
+    rw (at, whole a (entry_size * n) (omega arith)) (omega arith)
 
 -- ---- the run of a journal, by the run of its first piece and the run of the rest
 module _ (m : Memory) (numbered : ℕ) (a b : List ℕ) (pieces : length a ≡ entry_size * entry_count a) where

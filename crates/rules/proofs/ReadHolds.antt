@@ -9,11 +9,11 @@ use borrow.Author.Tests.{ltb-false, ne_eqb}
 use native.Mathlib.Decide.{ℕ_discrete}
 use lib.Dec.{ltb}
 use Rattle.rules.specs.declared.Record.{Record}
-use Rattle.rules.specs.declared.Found.{Found}
-use Rattle.rules.specs.declared.Found.TheVariants.{Nowhere, At}
+use Rattle.rules.specs.Pass.{Found}
+use Rattle.std.specs.Prelude.{Some, None}
 use Rattle.rules.specs.Bytes.{line_at}
-use Rattle.rules.specs.declared.Answer.{Answer}
 use Rattle.std.specs.Prelude.{if◌then◌else◌}
+use Rattle.rules.specs.Answers.{Reply}
 use Rattle.rules.specs.Table.{Memory, is_free, filled_state, heated, new_record, key_record, free_record, victim, half_down, most_total, places, size, line_total, with_table, with_gauge, write}
 use Rattle.rules.specs.Steps.{Outcome, aged, aged_gauge, decay_for, grown, track, raised, evict, admission, place, read_counted, warm_steps, peek_steps, read_steps, level}
 use Rattle.rules.specs.Calls.{most_weight, serial_limit}
@@ -61,7 +61,7 @@ unraised ceiling heat r tracked below = rw (ne_eqb r.state 0 tracked) (omega ari
 module _ (m : Memory) (t : Truth) (stale : ℕ → ℕ) (key w : ℕ) (h : Holds m t stale) (room : m.gauge.total + w ≤ most_total)
     (fits : key < 2 ^ 64) (few : m.gauge.serial < serial_limit) where
   -- ---- step 2
-  heat_holds : (i : ℕ) (r : Record) → key_record key (places m) (size m) ≡ At i r →
+  heat_holds : (i : ℕ) (r : Record) → key_record key (places m) (size m) ≡ Some (i, r) →
       Holds (admission i (write (grown w m) i (heated w r))).after (grown_truth t key w) stale
   unfolding grown with_gauge places size line_total grown_truth heated
   heat_holds i r e =
@@ -83,7 +83,7 @@ module _ (m : Memory) (t : Truth) (stale : ℕ → ℕ) (key w : ℕ) (h : Holds
       (heat_hottest f (size m) (line_total m) i found.inside w tracked h.hottest)))
 
   -- ---- steps 3 and 4
-  track_holds : (i ceiling : ℕ) → i < size m → (places m i).state ≤ 1 → key_record key (places m) (size m) ≡ Nowhere →
+  track_holds : (i ceiling : ℕ) → i < size m → (places m i).state ≤ 1 → key_record key (places m) (size m) ≡ None →
       m.gauge.ceiling ≤ ceiling → (places m i).heat ≤ ceiling →
       ((j : ℕ) → j < size m → level ceiling (places m j) ≤ level m.gauge.ceiling (places m j)) →
       Holds (admission i (track (with_gauge (counted m.gauge w ceiling) m) key w i)).after (grown_truth t key w) stale
@@ -116,13 +116,13 @@ module _ (m : Memory) (t : Truth) (stale : ℕ → ℕ) (key w : ℕ) (h : Holds
   placed_holds : (x y z : Found) → key_record key (places m) (size m) ≡ x → free_record (places m) (size m) ≡ y →
       victim (places m) (size m) ≡ z → Holds (place (grown w m) key w x y z).after (grown_truth t key w) stale
   unfolding place evict raised grown with_gauge line_total size
-  placed_holds (At i r) y z ex ey ez = heat_holds i r ex
-  placed_holds Nowhere (At i r) z ex ey ez =
+  placed_holds (Some (i, r)) y z ex ey ez = heat_holds i r ex
+  placed_holds None (Some (i, r)) z ex ey ez =
       let found = free_found (places m) (size m) i r ey in
       let zero_heat : (places m i).heat ≡ 0 = (zero_says (places m i) (h.tracks.free_zero i found.inside found.has)).1 in
       let free = found.has in
       track_holds i m.gauge.ceiling found.inside (omega arith) ex (omega arith) (omega arith) (λ j _. omega arith)
-  placed_holds Nowhere Nowhere (At i r) ex ey ez =
+  placed_holds None None (Some (i, r)) ex ey ez =
       let found = victim_found (places m) (size m) i r ez in
       let heat : r.heat ≡ (places m i).heat = ap (λ (s : Record). s.heat) found.is in
       let waits = found.has.0 in
@@ -130,7 +130,7 @@ module _ (m : Memory) (t : Truth) (stale : ℕ → ℕ) (key w : ℕ) (h : Holds
       (λ j j-inside.
       unraised m.gauge.ceiling r.heat (places m j) (free_missing (places m) (size m) ey j j-inside)
       (coldest_heat i r.heat heat found.inside waits found.has.1 j j-inside (free_missing (places m) (size m) ey j j-inside)))
-  placed_holds Nowhere Nowhere Nowhere ex ey ez =
+  placed_holds None None None ex ey ez =
       absurd
       (has_victim (places m) (size m) (line_total m)
       (lined_most (places m) (size m) (line_total m) h.tracks.state_most h.tracks.lines_apart)
@@ -167,6 +167,6 @@ pub read_holds : (m : Memory) (t : Truth) (stale : ℕ → ℕ) (key w : ℕ) �
     (0 < w → m.gauge.serial < serial_limit) → Holds (read_steps m key w).after (read_truth t key w) stale
 unfolding peek_steps read_truth
 read_holds m t stale key w h small fits few =
-    read_either m key w (λ (o : Outcome Answer Memory). Holds o.after (read_truth t key w) stale)
+    read_either m key w (λ (o : Outcome Reply Memory). Holds o.after (read_truth t key w) stale)
     (λ e. rw e h)
     (λ weighs. rw (read_counts t key w weighs) (warm_holds m t stale key w h small fits (few (omega arith))))

@@ -11,8 +11,8 @@ use native.Mathlib.Omega.{arith}
 use borrow.Author.Tests.{ltb-true, ltb-false}
 use lib.Dec.{ltb}
 use Rattle.rules.specs.declared.Record.{Record}
-use Rattle.rules.specs.declared.Found.{Found}
-use Rattle.rules.specs.declared.Found.TheVariants.{Nowhere, At}
+use Rattle.rules.specs.Pass.{Found}
+use Rattle.std.specs.Prelude.{Some, None}
 use Rattle.std.specs.Prelude.{if◌then◌else◌}
 use Rattle.rules.specs.Pass.{pass, first, best, first_of, best_of, sum_of, count_of, all_of, any_of, lowest_not}
 
@@ -42,36 +42,36 @@ module _ (test : Record → Bool) (f : ℕ → Record) where
 
   -- what a search of n records says, by what it found
   abbrev First : ℕ → Found → Type 0
-  First n Nowhere = (i : ℕ) → i < n → test (f i) ≡ false
-  First n (At i r) = IsFirst n i r
+  First n None = (i : ℕ) → i < n → test (f i) ≡ false
+  First n (Some (i, r)) = IsFirst n i r
 
   first_step : (n : ℕ) (x : Found) → First n x → First (suc n) (first test x n (f n))
   unfolding first
-  first_step n Nowhere none = go (test (f n)) refl
+  first_step n None none = go (test (f n)) refl
     where
-      go : (b : Bool) → test (f n) ≡ b → First (suc n) (if b then At n (f n) else Nowhere)
+      go : (b : Bool) → test (f n) ≡ b → First (suc n) (if b then Some (n, (f n)) else None)
       go true e = record { inside = omega arith; is = refl; passes = e; before = none }
       go false e = up_to _ n none e
-  first_step n (At i r) h = record { inside = omega arith; is = h.is; passes = h.passes; before = h.before }
+  first_step n (Some (i, r)) h = record { inside = omega arith; is = h.is; passes = h.passes; before = h.before }
 
   first_is : (n : ℕ) → First n (first_of test f n)
   unfolding first_of pass
   first_is zero = λ i below. absurd (omega arith)
   first_is (suc n) = first_step n (first_of test f n) (first_is n)
 
-  pub first_at : (n i : ℕ) (r : Record) → first_of test f n ≡ At i r → IsFirst n i r
+  pub first_at : (n i : ℕ) (r : Record) → first_of test f n ≡ Some (i, r) → IsFirst n i r
   first_at n i r e = rw e at (first_is n)
 
-  pub first_nowhere : (n : ℕ) → first_of test f n ≡ Nowhere → (i : ℕ) → i < n → test (f i) ≡ false
+  pub first_nowhere : (n : ℕ) → first_of test f n ≡ None → (i : ℕ) → i < n → test (f i) ≡ false
   first_nowhere n e = rw e at (first_is n)
 
   -- once found, it stays
-  pub first_found : (n i : ℕ) → i < n → test (f i) ≡ true → ((j : ℕ) → j < i → test (f j) ≡ false) → first_of test f n ≡ At i (f i)
+  pub first_found : (n i : ℕ) → i < n → test (f i) ≡ true → ((j : ℕ) → j < i → test (f j) ≡ false) → first_of test f n ≡ Some (i, (f i))
   first_found n i below passes before = go (first_of test f n) (first_is n)
     where
-      go : (x : Found) → First n x → x ≡ At i (f i)
-      go Nowhere none = clash passes (none i below)
-      go (At j r) h =
+      go : (x : Found) → First n x → x ≡ Some (i, (f i))
+      go None none = clash passes (none i below)
+      go (Some (j, r)) h =
           let not_before : ¬ (j < i) = λ l. clash h.passes (ap test h.is ∙ before j l) in
           let not_after : ¬ (i < j) = λ l. clash passes (h.before i l) in
           let e : j ≡ i = omega arith in
@@ -89,8 +89,8 @@ module _ (test : Record → Bool) (beats : Record → Record → Bool) (f : ℕ 
 
   -- what a search of n records says, by what it found
   abbrev Best : ℕ → Found → Type 0
-  Best n Nowhere = (i : ℕ) → i < n → test (f i) ≡ false
-  Best n (At i r) = IsBest n i r
+  Best n None = (i : ℕ) → i < n → test (f i) ≡ false
+  Best n (Some (i, r)) = IsBest n i r
 
 -- in an order by which what beats another beats all that do not beat that other
 module _ (test : Record → Bool) (beats : Record → Record → Bool)
@@ -99,9 +99,9 @@ module _ (test : Record → Bool) (beats : Record → Record → Bool)
     (never : (r : Record) → beats r r ≡ false) (f : ℕ → Record) where
   best_step : (n : ℕ) (x : Found) → Best test beats f n x → Best test beats f (suc n) (best test beats x n (f n))
   unfolding best
-  best_step n Nowhere none = go (test (f n)) refl
+  best_step n None none = go (test (f n)) refl
     where
-      go : (b : Bool) → test (f n) ≡ b → Best test beats f (suc n) (if b then At n (f n) else Nowhere)
+      go : (b : Bool) → test (f n) ≡ b → Best test beats f (suc n) (if b then Some (n, (f n)) else None)
       go true e =
           record {
             inside = omega arith;
@@ -111,7 +111,7 @@ module _ (test : Record → Bool) (beats : Record → Record → Bool)
             before = λ j below passes. clash passes (none j below);
           }
       go false e = up_to _ n none e
-  best_step n (At i r) h = go (test (f n)) (beats (f n) r) refl refl
+  best_step n (Some (i, r)) h = go (test (f n)) (beats (f n) r) refl refl
     where
       kept : (test (f n) ≡ true → beats (f n) r ≡ false) → IsBest test beats f (suc n) i r
       kept last =
@@ -123,7 +123,7 @@ module _ (test : Record → Bool) (beats : Record → Record → Bool)
             before = h.before;
           }
 
-      go : (b w : Bool) → test (f n) ≡ b → beats (f n) r ≡ w → Best test beats f (suc n) (if b && w then At n (f n) else At i r)
+      go : (b w : Bool) → test (f n) ≡ b → beats (f n) r ≡ w → Best test beats f (suc n) (if b && w then Some (n, (f n)) else Some (i, r))
       go true true e wins =
           let beaten : (j : ℕ) → j < n → test (f j) ≡ true → beats (f n) (f j) ≡ true =
           λ j below passes. over (f n) r (f j) wins (h.unbeaten j below passes) in
@@ -142,19 +142,19 @@ module _ (test : Record → Bool) (beats : Record → Record → Bool)
   best_is zero = λ i below. absurd (omega arith)
   best_is (suc n) = best_step n (best_of test beats f n) (best_is n)
 
-  pub best_at : (n i : ℕ) (r : Record) → best_of test beats f n ≡ At i r → IsBest test beats f n i r
+  pub best_at : (n i : ℕ) (r : Record) → best_of test beats f n ≡ Some (i, r) → IsBest test beats f n i r
   best_at n i r e = rw e at (best_is n)
 
-  pub best_nowhere : (n : ℕ) → best_of test beats f n ≡ Nowhere → (i : ℕ) → i < n → test (f i) ≡ false
+  pub best_nowhere : (n : ℕ) → best_of test beats f n ≡ None → (i : ℕ) → i < n → test (f i) ≡ false
   best_nowhere n e = rw e at (best_is n)
 
   -- there is one such place, and it is found
-  pub best_found : (n i : ℕ) → IsBest test beats f n i (f i) → best_of test beats f n ≡ At i (f i)
+  pub best_found : (n i : ℕ) → IsBest test beats f n i (f i) → best_of test beats f n ≡ Some (i, (f i))
   best_found n i b = go (best_of test beats f n) (best_is n)
     where
-      go : (x : Found) → Best test beats f n x → x ≡ At i (f i)
-      go Nowhere none = clash b.passes (none i b.inside)
-      go (At j r) h =
+      go : (x : Found) → Best test beats f n x → x ≡ Some (i, (f i))
+      go None none = clash b.passes (none i b.inside)
+      go (Some (j, r)) h =
           let passes : test (f j) ≡ true = ap test (sym h.is) ∙ h.passes in
           let not_before : ¬ (j < i) = λ l. clash (b.before j l passes) (ap (beats (f i)) (sym h.is) ∙ h.unbeaten i b.inside b.passes) in
           let not_after : ¬ (i < j) =

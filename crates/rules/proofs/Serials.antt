@@ -6,18 +6,16 @@ use mathlib.Core.Bool.{Bool, true, false}
 use mathlib.Core.List.{List}
 use native.Mathlib.Omega.{arith}
 use lib.Dec.{ltb, eqb}
-use Rattle.rules.specs.declared.Found.{Found}
-use Rattle.rules.specs.declared.Found.TheVariants.{Nowhere, At}
+use Rattle.rules.specs.Pass.{Found}
+use Rattle.std.specs.Prelude.{Some, None}
 use Rattle.rules.specs.declared.Lookup.{Lookup}
 use Rattle.rules.specs.declared.Lookup.TheVariants.{Untracked, Unlined, Lined}
-use Rattle.rules.specs.declared.Answer.{Answer}
-use Rattle.rules.specs.declared.Answer.TheVariants.{Refused}
-use Rattle.rules.specs.declared.Verdict.{Verdict}
-use Rattle.rules.specs.declared.Verdict.TheVariants.{Accepted}
+use Rattle.rules.specs.declared.Refusal.TheVariants.{StaleTicket}
+use Rattle.rules.specs.Answers.{Completion, Reply}
+use Rattle.std.specs.Prelude.{Ok, Err}
 use Rattle.std.specs.Prelude.{if◌then◌else◌}
 use Rattle.rules.specs.Table.{Memory, is_lined, hotter, key_record, lookup, most_total, places, size, line_total, coldest_lined, hottest_unlined, lowest_unused, with_table, with_gauge, with_lines, write}
 use Rattle.rules.specs.Steps.{Outcome, outcome, aged_gauge, aged, age_steps, next_ticket, ticketed, GivesOne, renew, give_line, hand_over, decay_for, grown, track, raised, evict, replace_coldest, promote, admit, admission, place, read_counted, warm_steps, peek_steps, read_steps, demote_for, demote, change, update_steps, store_in, store, fill_steps}
-use Rattle.rules.specs.Answers.{stale_ticket}
 use Rattle.rules.specs.Calls.{unless, leaving, plain_verdict, read_verdict, update_verdict, fill_verdict, age_outcome, read_outcome, update_outcome, fill_outcome}
 use Rattle.rules.proofs.Peek.{read_either}
 
@@ -47,17 +45,17 @@ either : (m : Memory) (b : Bool) (x y : Memory) → GivesOne m x → GivesOne m 
 either m true x y gx gy = gx
 either m false x y gx gy = gy
 
-unless_one : (m : Memory) (v : Verdict) (given : Outcome Answer Memory) → GivesOne m given.after →
+unless_one : (m : Memory) (v : Completion) (given : Outcome Reply Memory) → GivesOne m given.after →
     GivesOne m (unless v (leaving m) given).after
 unfolding unless
-unless_one m Accepted given g = g
-unless_one m (Verdict.Refused n) given g = none m m refl
+unless_one m (Ok u) given g = g
+unless_one m (Err n) given g = none m m refl
 
 -- ---- step 5
 replace_one : (m : Memory) (i : ℕ) (x : Found) → GivesOne m (replace_coldest m i x)
 unfolding replace_coldest
-replace_one m i Nowhere = none m m refl
-replace_one m i (At j r) = either m (hotter (places m i) r) (hand_over m j i) m (hand_one m j i) (none m m refl)
+replace_one m i None = none m m refl
+replace_one m i (Some (j, r)) = either m (hotter (places m i) r) (hand_over m j i) m (hand_one m j i) (none m m refl)
 
 admit_one : (m : Memory) (i : ℕ) → GivesOne m (admit m i)
 unfolding admit promote
@@ -70,10 +68,10 @@ admit_one m i =
 -- ---- the calls
 place_one : (m : Memory) (key w : ℕ) (x y z : Found) → GivesOne m (place m key w x y z).after
 unfolding place admission evict track raised write with_table with_gauge next_ticket
-place_one m key w (At i r) y z = admit_one _ i
-place_one m key w Nowhere (At i r) z = admit_one _ i
-place_one m key w Nowhere Nowhere (At i r) = admit_one _ i
-place_one m key w Nowhere Nowhere Nowhere = none m m refl
+place_one m key w (Some (i, r)) y z = admit_one _ i
+place_one m key w None (Some (i, r)) z = admit_one _ i
+place_one m key w None None (Some (i, r)) = admit_one _ i
+place_one m key w None None None = none m m refl
 
 warm_one : (m : Memory) (key w : ℕ) → GivesOne m (warm_steps m key w).after
 unfolding warm_steps read_counted decay_for grown aged aged_gauge with_table with_gauge next_ticket
@@ -87,7 +85,7 @@ pub read_gives : (m : Memory) (key w : ℕ) → GivesOne m (read_outcome m key w
 unfolding read_outcome peek_steps
 read_gives m key w =
     unless_one m (read_verdict m w) (read_steps m key w)
-    (read_either m key w (λ (o : Outcome Answer Memory). GivesOne m o.after) (λ _. none m m refl) (λ _. warm_one m key w))
+    (read_either m key w (λ (o : Outcome Reply Memory). GivesOne m o.after) (λ _. none m m refl) (λ _. warm_one m key w))
 
 demote_one : (m : Memory) (i : ℕ) → GivesOne m (demote m i)
 unfolding demote demote_for
@@ -96,16 +94,16 @@ demote_one m i =
     (go (hottest_unlined (places m) (size m))) (none m m refl)
   where
     go : (x : Found) → GivesOne m (demote_for m i x)
-    go Nowhere = renew_one m i
-    go (At j r) = either m (hotter r (places m i)) (hand_over m i j) (renew m i) (hand_one m i j) (renew_one m i)
+    go None = renew_one m i
+    go (Some (j, r)) = either m (hotter r (places m i)) (hand_over m i j) (renew m i) (hand_one m i j) (renew_one m i)
 
 pub update_gives : (m : Memory) (key w : ℕ) → GivesOne m (update_outcome m key w).after
 unfolding update_outcome update_steps change write with_table next_ticket
 update_gives m key w = unless_one m (update_verdict m w) (update_steps m key w) (go (key_record key (places m) (size m)))
   where
     go : (x : Found) → GivesOne m (change m w x).after
-    go Nowhere = none m m refl
-    go (At i r) = demote_one _ i
+    go None = none m m refl
+    go (Some (i, r)) = demote_one _ i
 
 pub fill_gives_none : (m : Memory) (key : ℕ) (picture : List ℕ) (ticket : ℕ) → (fill_outcome m key picture ticket).after.gauge ≡ m.gauge
 unfolding fill_outcome fill_steps unless store store_in with_lines write with_table
@@ -117,18 +115,18 @@ fill_gives_none m key picture ticket = verdict (fill_verdict m picture)
     stored (Lined i n true given) = refl
     stored (Lined i n false given) = go (eqb ticket given)
       where
-        go : (b : Bool) → (if b then store_in m i n picture else outcome (Refused stale_ticket) m).after.gauge ≡ m.gauge
+        go : (b : Bool) → (if b then store_in m i n picture else outcome (Err StaleTicket) m).after.gauge ≡ m.gauge
         go true = refl
         go false = refl
 
-    verdict : (v : Verdict) → (unless v (leaving m) (fill_steps m key picture ticket)).after.gauge ≡ m.gauge
-    verdict Accepted = stored (lookup (places m) (size m) key)
-    verdict (Verdict.Refused n) = refl
+    verdict : (v : Completion) → (unless v (leaving m) (fill_steps m key picture ticket)).after.gauge ≡ m.gauge
+    verdict (Ok u) = stored (lookup (places m) (size m) key)
+    verdict (Err n) = refl
 
 pub age_gives_none : (m : Memory) → (age_outcome m).after.gauge.serial ≡ m.gauge.serial
 unfolding age_outcome age_steps unless aged aged_gauge with_gauge
 age_gives_none m = go (plain_verdict m)
   where
-    go : (v : Verdict) → (unless v (leaving m) (age_steps m)).after.gauge.serial ≡ m.gauge.serial
-    go Accepted = refl
-    go (Verdict.Refused n) = refl
+    go : (v : Completion) → (unless v (leaving m) (age_steps m)).after.gauge.serial ≡ m.gauge.serial
+    go (Ok u) = refl
+    go (Err n) = refl

@@ -7,8 +7,8 @@ use borrow.Author.Tests.{ltb-true}
 use lib.Dec.{ltb}
 use Rattle.rules.specs.declared.Record.{Record}
 use Rattle.rules.specs.declared.Gauge.{Gauge}
-use Rattle.rules.specs.declared.Found.{Found}
-use Rattle.rules.specs.declared.Found.TheVariants.{Nowhere, At}
+use Rattle.rules.specs.Pass.{Found}
+use Rattle.std.specs.Prelude.{Some, None}
 use Rattle.rules.specs.Bytes.{line_at}
 use Rattle.std.specs.Prelude.{if◌then◌else◌}
 use Rattle.rules.specs.Table.{Memory, is_lined, line_of, empty_state, with_state, cooled, emptied, key_record, places, size, line_total, write}
@@ -47,7 +47,7 @@ update_holds m t stale key w h few = go (key_record key (places m) (size m)) ref
 
     go : (x : Found) → key_record key (places m) (size m) ≡ x →
         Holds (change m w x).after (update_truth t key w) (update_stale stale key m.gauge.serial)
-    go Nowhere e =
+    go None e =
         let untracked = key_missing f (size m) key e in
         record {
           sizes = h.sizes;
@@ -58,7 +58,7 @@ update_holds m t stale key w h few = go (key_record key (places m) (size m)) ref
           full = h.full;
           hottest = h.hottest;
         }
-    go (At i r) e =
+    go (Some (i, r)) e =
         let found = key_found f (size m) key i r e in
         let tracked : 0 < (f i).state = found.has.0 in
         let s : Record = emptied (cooled w (f i)) in

@@ -1,18 +1,16 @@
 -- One definition a call: its answer and all it leaves, for accepted and refused calls alike, by a Rattle caller or a C host.
-use Rattle.std.specs.Prelude.{ℕ, ◌*◌, ◌≤◌, ◌<◌, ◌≡◌, List, [], ◌∷◌, Bool, ◌&&◌, ◌||◌, length, ltb, leb, eqb, if◌then◌else◌}
+use Rattle.std.specs.Prelude.{ℕ, ◌*◌, ◌≤◌, ◌<◌, ◌≡◌, List, [], ◌∷◌, Bool, ◌&&◌, ◌||◌, length, ltb, leb, eqb, if◌then◌else◌, Result, Ok, Err}
 use Rattle.std.proofs.Math.Option.{Option, none}
 use Rattle.rules.specs.declared.Gauge.{Gauge}
-use Rattle.rules.specs.declared.Verdict.{Verdict}
-use Rattle.rules.specs.declared.Verdict.TheVariants.{Accepted}
-use Rattle.rules.specs.declared.Reply.{Reply}
-use Rattle.rules.specs.declared.Started.{Started}
-use Rattle.rules.specs.declared.Answer.{Answer}
-use Rattle.rules.specs.declared.Answer.TheVariants.{Aged, Changed, Unknown, Stored, Passed, Hit, Wanted, Refused}
-use Rattle.rules.specs.declared.Completion.{Completion}
-use Rattle.rules.specs.declared.Levels.{Levels}
+use Rattle.rules.specs.declared.View.{View}
+use Rattle.rules.specs.declared.Hub.{Hub}
+use Rattle.rules.specs.declared.Answer.TheVariants.{Aged, Changed, Unknown, Stored, Passed, Hit, Wanted}
+use Rattle.rules.specs.declared.Refusal.{Refusal}
+use Rattle.rules.specs.declared.Refusal.TheVariants.{WrongSizes, WrongWeight, NotInOrder, WrongPicture, SerialSpent}
+use Rattle.rules.specs.Refusals.{number}
 use Rattle.rules.specs.Bytes.{number_size, put64, record_size, record_count, line_size, line_count, gauge_size, gauge_at, put_gauge}
 use Rattle.rules.specs.Table.{Memory, in_order, lookup, places, size, line_total, fresh_memory}
-use Rattle.rules.specs.Answers.{number_of, done_number, completion_number, wrong_sizes, wrong_weight, not_in_order, wrong_picture, serial_spent}
+use Rattle.rules.specs.Answers.{Reply, Completion, number_of, done_number, completion_number}
 use Rattle.rules.specs.Steps.{Outcome, outcome, age_steps, read_steps, update_steps, fill_steps, shown_line, levelled_sum}
 
 -- ---- the tests
@@ -63,91 +61,96 @@ serial_limit = 9223372036854775808
 unfoldable pub serial_good : Memory → Bool
 serial_good m = ltb m.gauge.serial serial_limit
 
--- A test, and the number that a call is refused with where it fails.
+-- A test, and why a call is refused where it fails.
 pub record Test : Type 0 where
   pub passes : Bool
-  pub number : ℕ
+  pub cause : Refusal
 
-abbrev pub must : Bool → ℕ → Test
-must good number = record { passes = good; number = number }
+abbrev pub must : Bool → Refusal → Test
+must good cause = record { passes = good; cause = cause }
 
--- the number of the first test that fails
-unfoldable pub verdict : List Test → Verdict
-verdict [] = Accepted
-verdict (t ∷ ts) = if t.passes then verdict ts else Verdict.Refused t.number
+-- by the first test that fails
+unfoldable pub verdict : List Test → Completion
+verdict [] = Ok tt
+verdict (t ∷ ts) = if t.passes then verdict ts else Err t.cause
 
 -- | Order of tests: 1, then 2 or 4, then 3, 5, 6. .. 9, .. tested after 6; 10, .. tested after 3. (5, 6 and 9 are among the steps of a
 -- | fill.)
 unfoldable pub sizes_test : Memory → Test
-sizes_test m = must (sizes_good m.table m.lines) wrong_sizes
+sizes_test m = must (sizes_good m.table m.lines) WrongSizes
 
 unfoldable pub order_test : Memory → Test
-order_test m = must (order_good m) not_in_order
+order_test m = must (order_good m) NotInOrder
 
 unfoldable pub serial_test : Bool → Test
-serial_test good = must good serial_spent
+serial_test good = must good SerialSpent
 
-unfoldable pub unless : {Given : Type 0} → Verdict → (ℕ → Given) → Given → Given
-unless Accepted refused given = given
-unless (Verdict.Refused n) refused given = refused n
+unfoldable pub unless : {Given : Type 0} → Completion → (Refusal → Given) → Given → Given
+unless (Ok u) refused given = given
+unless (Err cause) refused given = refused cause
 
 -- | Returned: the number. Left as it was: all lent memory
-abbrev pub leaving : {Lent : Type 0} → Lent → ℕ → Outcome Answer Lent
-leaving lent n = outcome (Refused n) lent
+abbrev pub leaving : {Lent : Type 0} → Lent → Refusal → Outcome Reply Lent
+leaving lent cause = outcome (Err cause) lent
 
 -- ---- the calls
 -- the tests of aging, show and levelled sum
-unfoldable pub plain_verdict : Memory → Verdict
+unfoldable pub plain_verdict : Memory → Completion
 plain_verdict m = verdict (sizes_test m ∷ order_test m ∷ [])
 
-unfoldable pub age_outcome : Memory → Outcome Answer Memory
+unfoldable pub age_outcome : Memory → Outcome Reply Memory
 age_outcome m = unless (plain_verdict m) (leaving m) (age_steps m)
 
 -- | a read over 0
-unfoldable pub read_verdict : Memory → ℕ → Verdict
+unfoldable pub read_verdict : Memory → ℕ → Completion
 read_verdict m w =
-    verdict (sizes_test m ∷ must (read_weight_good w) wrong_weight ∷ order_test m ∷ serial_test (eqb w 0 || serial_good m) ∷ [])
+    verdict (sizes_test m ∷ must (read_weight_good w) WrongWeight ∷ order_test m ∷ serial_test (eqb w 0 || serial_good m) ∷ [])
 
-unfoldable pub read_outcome : Memory → ℕ → ℕ → Outcome Answer Memory
+unfoldable pub read_outcome : Memory → ℕ → ℕ → Outcome Reply Memory
 read_outcome m key w = unless (read_verdict m w) (leaving m) (read_steps m key w)
 
-unfoldable pub update_verdict : Memory → ℕ → Verdict
+unfoldable pub update_verdict : Memory → ℕ → Completion
 update_verdict m w =
-    verdict (sizes_test m ∷ must (update_weight_good w) wrong_weight ∷ order_test m ∷ serial_test (serial_good m) ∷ [])
+    verdict (sizes_test m ∷ must (update_weight_good w) WrongWeight ∷ order_test m ∷ serial_test (serial_good m) ∷ [])
 
-unfoldable pub update_outcome : Memory → ℕ → ℕ → Outcome Answer Memory
+unfoldable pub update_outcome : Memory → ℕ → ℕ → Outcome Reply Memory
 update_outcome m key w = unless (update_verdict m w) (leaving m) (update_steps m key w)
 
-unfoldable pub fill_verdict : Memory → List ℕ → Verdict
+unfoldable pub fill_verdict : Memory → List ℕ → Completion
 fill_verdict m picture =
-    verdict (sizes_test m ∷ must (picture_good picture) wrong_picture ∷ order_test m ∷ serial_test (serial_good m) ∷ [])
+    verdict (sizes_test m ∷ must (picture_good picture) WrongPicture ∷ order_test m ∷ serial_test (serial_good m) ∷ [])
 
-unfoldable pub fill_outcome : Memory → ℕ → List ℕ → ℕ → Outcome Answer Memory
+unfoldable pub fill_outcome : Memory → ℕ → List ℕ → ℕ → Outcome Reply Memory
 fill_outcome m key picture ticket = unless (fill_verdict m picture) (leaving m) (fill_steps m key picture ticket)
 
 -- | Fresh gives only 1. .. Fresh .. answers done.
 unfoldable pub fresh_outcome : Memory → Outcome Completion Memory
 fresh_outcome m =
-    unless (verdict (sizes_test m ∷ [])) (λ n. outcome (Completion.Refused n) m) (outcome Completion.Done (fresh_memory m))
+    unless (verdict (sizes_test m ∷ [])) (λ cause. outcome (Err cause) m) (outcome (Ok tt) (fresh_memory m))
 
 -- | Show gives no numbers: where cause 1 or 3 holds, it returns the stand-in too.
 unfoldable pub show_line : Memory → ℕ → Option ℕ
-show_line m key = unless (plain_verdict m) (λ n. none) (shown_line (lookup (places m) (size m) key))
+show_line m key = unless (plain_verdict m) (λ cause. none) (shown_line (lookup (places m) (size m) key))
 
 -- | Levelled sum .. Refusals 1 and 3.
-unfoldable pub levelled_outcome : Memory → Levels
-levelled_outcome m = unless (plain_verdict m) Levels.Refused (Levels.Sum (levelled_sum m))
+unfoldable pub levelled_outcome : Memory → Result ℕ Refusal
+levelled_outcome m = unless (plain_verdict m) (λ cause. Err cause) (Ok (levelled_sum m))
 
 -- ---- in the words of a function's contract
 abbrev pub lent : List ℕ → Gauge → List ℕ → Memory
 lent table gauge lines = record { table = table; gauge = gauge; lines = lines }
 
--- a reply, with the table and the lines that the call leaves
-abbrev pub left : Reply → List ℕ → List ℕ → Outcome Answer Memory
-left reply table lines = outcome reply.answer (lent table reply.gauge lines)
+-- what a view shows, and what a hub holds
+abbrev pub seen : View → Memory
+seen v = lent v.table.now v.gauge v.lines.now
 
-abbrev pub started : Started → List ℕ → List ℕ → Outcome Completion Memory
-started reply table lines = outcome reply.answer (lent table reply.gauge lines)
+abbrev pub memory : Hub → Memory
+memory h = lent h.table.now h.gauge h.lines.now
+
+-- a hub still holds what it was lent: the table in its place, as long as it was, and the lines as they were
+abbrev pub SameLent : Hub → Hub → Type 0
+SameLent was is =
+    (is.table.ghost_name ≡ was.table.ghost_name) × (length is.table.now ≡ length was.table.now) × (is.lines ≡ was.lines)
 
 -- ---- a call by a C host
 -- | The hub's host program is in C; it calls through exported functions and lends the gauge as [24] bytes
@@ -169,15 +172,15 @@ stored h m = record { table = m.table; gauge = put_gauge h.gauge m.gauge; lines 
 
 -- | gauge bytes not [24]
 unfoldable pub gauge_test : HostMemory → Test
-gauge_test h = must (eqb (length h.gauge) gauge_size) wrong_sizes
+gauge_test h = must (eqb (length h.gauge) gauge_size) WrongSizes
 
-unfoldable pub hosted : (Memory → Outcome Answer Memory) → HostMemory → Outcome Answer HostMemory
+unfoldable pub hosted : (Memory → Outcome Reply Memory) → HostMemory → Outcome Reply HostMemory
 hosted call h =
     unless (verdict (gauge_test h ∷ [])) (leaving h)
     (outcome (call (held h)).answer (stored h (call (held h)).after))
 
 -- | An exported read, update, fill or aging returns one number
-unfoldable pub exported : (Memory → Outcome Answer Memory) → HostMemory → Outcome ℕ HostMemory
+unfoldable pub exported : (Memory → Outcome Reply Memory) → HostMemory → Outcome ℕ HostMemory
 exported call h = outcome (number_of (hosted call h).answer) (hosted call h).after
 
 -- ---- a read by a C host
@@ -191,40 +194,40 @@ read_lent h ticket = record { memory = h; ticket = ticket }
 
 -- | a number in 8 bytes .. A length that isn't whole is refused as a wrong count. .. another length gives 1
 unfoldable pub number_test : List ℕ → Test
-number_test bytes = must (eqb (length bytes) number_size) wrong_sizes
+number_test bytes = must (eqb (length bytes) number_size) WrongSizes
 
 -- | which get the ticket on wanted and otherwise stay
-unfoldable pub put_ticket : List ℕ → Answer → List ℕ
-put_ticket bytes Aged = bytes
-put_ticket bytes Changed = bytes
-put_ticket bytes Unknown = bytes
-put_ticket bytes Stored = bytes
-put_ticket bytes Passed = bytes
-put_ticket bytes (Hit n) = bytes
-put_ticket bytes (Wanted n ticket) = put64 bytes 0 ticket
-put_ticket bytes (Refused n) = bytes
+unfoldable pub put_ticket : List ℕ → Reply → List ℕ
+put_ticket bytes (Ok Aged) = bytes
+put_ticket bytes (Ok Changed) = bytes
+put_ticket bytes (Ok Unknown) = bytes
+put_ticket bytes (Ok Stored) = bytes
+put_ticket bytes (Ok Passed) = bytes
+put_ticket bytes (Ok (Hit n)) = bytes
+put_ticket bytes (Ok (Wanted n ticket)) = put64 bytes 0 ticket
+put_ticket bytes (Err cause) = bytes
 
-unfoldable pub hosted_read : (Memory → Outcome Answer Memory) → HostRead → Outcome Answer HostRead
+unfoldable pub hosted_read : (Memory → Outcome Reply Memory) → HostRead → Outcome Reply HostRead
 hosted_read call h =
     unless (verdict (number_test h.ticket ∷ [])) (leaving h)
     (outcome (hosted call h.memory).answer
     (read_lent (hosted call h.memory).after (put_ticket h.ticket (hosted call h.memory).answer)))
 
-unfoldable pub exported_read : (Memory → Outcome Answer Memory) → HostRead → Outcome ℕ HostRead
+unfoldable pub exported_read : (Memory → Outcome Reply Memory) → HostRead → Outcome ℕ HostRead
 exported_read call h = outcome (number_of (hosted_read call h).answer) (hosted_read call h).after
 
 -- ---- fresh and the levelled sum by a C host
 -- | Fresh, .. answers done. (The number that a host is told for it: Answers.antt.)
 unfoldable pub exported_fresh : HostMemory → Outcome ℕ HostMemory
 exported_fresh h =
-    unless (verdict (gauge_test h ∷ [])) (λ n. outcome n h)
+    unless (verdict (gauge_test h ∷ [])) (λ cause. outcome (number cause) h)
     (outcome (completion_number (fresh_outcome (held h)).answer) (stored h (fresh_outcome (held h)).after))
 
-unfoldable pub put_levels : List ℕ → Levels → Outcome ℕ (List ℕ)
-put_levels sum (Levels.Sum n) = outcome done_number (put64 sum 0 n)
-put_levels sum (Levels.Refused n) = outcome n sum
+unfoldable pub put_levels : List ℕ → Result ℕ Refusal → Outcome ℕ (List ℕ)
+put_levels sum (Ok n) = outcome done_number (put64 sum 0 n)
+put_levels sum (Err cause) = outcome (number cause) sum
 
 -- the number that the host is told, and what becomes of the bytes that it lent for the sum
 unfoldable pub exported_sum : HostMemory → List ℕ → Outcome ℕ (List ℕ)
 exported_sum h sum =
-    unless (verdict (gauge_test h ∷ number_test sum ∷ [])) (λ n. outcome n sum) (put_levels sum (levelled_outcome (held h)))
+    unless (verdict (gauge_test h ∷ number_test sum ∷ [])) (λ cause. outcome (number cause) sum) (put_levels sum (levelled_outcome (held h)))

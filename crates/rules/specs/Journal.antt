@@ -1,13 +1,15 @@
 -- The journal: its record forms, reading it from a position, and running a whole journal on a memory with the rows it prints.
-use Rattle.std.specs.Prelude.{ℕ, zero, suc, ◌+◌, ◌-◌, ◌*◌, ◌/◌, ◌%◌, ◌≡◌, List, [], ◌∷◌, ◌++◌, Bool, true, false, ◌&&◌, length, get_or, take, drop, ltb, leb, eqb, if◌then◌else◌}
+use Rattle.std.specs.Prelude.{ℕ, zero, suc, ◌+◌, ◌-◌, ◌*◌, ◌/◌, ◌%◌, ◌≡◌, List, [], ◌∷◌, ◌++◌, Bool, true, ◌&&◌, length, get_or, take, drop, ltb, leb, eqb, if◌then◌else◌, Option, Some, None, Result, Ok, Err}
 use Rattle.rules.specs.declared.Entry.{Entry}
-use Rattle.rules.specs.declared.Entry.TheVariants.{Read, Update, Fill, Age, Done}
+use Rattle.rules.specs.declared.Entry.TheVariants.{Read, Update, Fill, Age}
 use Rattle.rules.specs.declared.Decoded.{Decoded}
-use Rattle.rules.specs.declared.Answer.{Answer}
-use Rattle.rules.specs.declared.Answer.TheVariants.{Aged, Changed, Unknown, Stored, Passed, Hit, Wanted, Refused}
+use Rattle.rules.specs.declared.Answer.TheVariants.{Aged, Changed, Unknown, Stored, Passed, Hit, Wanted}
+use Rattle.rules.specs.declared.Refusal.{Refusal}
+use Rattle.rules.specs.declared.Refusal.TheVariants.{UnknownForm, ShortEnd}
+use Rattle.rules.specs.Refusals.{number}
 use Rattle.rules.specs.Bytes.{get64, line_size}
 use Rattle.rules.specs.Table.{Memory}
-use Rattle.rules.specs.Answers.{unknown_form, short_end, read_kind, update_kind, fill_kind, age_kind}
+use Rattle.rules.specs.Answers.{Reply, read_kind, update_kind, fill_kind, age_kind}
 use Rattle.rules.specs.Steps.{Outcome, outcome}
 use Rattle.rules.specs.Calls.{age_outcome, read_outcome, update_outcome, fill_outcome}
 
@@ -65,11 +67,11 @@ unfoldable pub ticket_zero : List ℕ → ℕ → Bool
 ticket_zero j at = eqb (ticket_at j at) 0
 
 -- | anything else is 7
-unfoldable pub of_form : Bool → Entry → Entry
-of_form good entry = if good then entry else Entry.Refused unknown_form
+unfoldable pub of_form : Bool → Entry → Result Entry Refusal
+of_form good entry = if good then Ok entry else Err UnknownForm
 
 -- | 1 read, 2 update, 3 fill, 4 age
-unfoldable pub whole_entry : List ℕ → ℕ → Entry
+unfoldable pub whole_entry : List ℕ → ℕ → Result Entry Refusal
 whole_entry j at =
     if eqb (kind_at j at) read_kind
     then of_form (gaps_zero j at && picture_zero j at && ticket_zero j at) (Read (key_at j at) (weight_at j at))
@@ -83,16 +85,16 @@ whole_entry j at =
 -- ---- reading from a position
 -- | A reader that holds the lent journal and its position gives one record after another. A 7 moves it past that record, an 8
 -- | leaves it there, and with no byte left it answers done.
-unfoldable pub decoded : Entry → ℕ → Decoded
+unfoldable pub decoded : Option (Result Entry Refusal) → ℕ → Decoded
 decoded entry next = record { entry = entry; next = next }
 
 unfoldable pub entry_at : List ℕ → ℕ → Decoded
 entry_at j at =
     if leb (length j) at
-    then decoded Done at
+    then decoded None at
     else if ltb (length j - at) entry_size
-    then decoded (Entry.Refused short_end) at
-    else decoded (whole_entry j at) (at + entry_size)
+    then decoded (Some (Err ShortEnd)) at
+    else decoded (Some (whole_entry j at)) (at + entry_size)
 
 -- ---- a run
 -- | the answer's word without its line number (or `refused-` and the number)
@@ -129,15 +131,15 @@ wanted_word = 119 ∷ 97 ∷ 110 ∷ 116 ∷ 101 ∷ 100 ∷ []
 abbrev pub refused_word : List ℕ
 refused_word = 114 ∷ 101 ∷ 102 ∷ 117 ∷ 115 ∷ 101 ∷ 100 ∷ 45 ∷ []
 
-unfoldable pub word_of : Answer → List ℕ
-word_of Aged = aged_word
-word_of Changed = changed_word
-word_of Unknown = unknown_word
-word_of Stored = stored_word
-word_of Passed = passed_word
-word_of (Hit n) = hit_word
-word_of (Wanted n ticket) = wanted_word
-word_of (Refused n) = refused_word ++ decimal n
+unfoldable pub word_of : Reply → List ℕ
+word_of (Ok Aged) = aged_word
+word_of (Ok Changed) = changed_word
+word_of (Ok Unknown) = unknown_word
+word_of (Ok Stored) = stored_word
+word_of (Ok Passed) = passed_word
+word_of (Ok (Hit n)) = hit_word
+word_of (Ok (Wanted n ticket)) = wanted_word
+word_of (Err cause) = refused_word ++ decimal (number cause)
 
 -- | prints per record: its number from 1, the answer's word .., total, ceiling, one space between
 pub record Row : Type 0 where
@@ -161,7 +163,7 @@ pub record Run : Type 0 where
   pub numbered : ℕ
   pub rows : List Row
 
-unfoldable pub row_of : ℕ → Outcome Answer Memory → Row
+unfoldable pub row_of : ℕ → Outcome Reply Memory → Row
 row_of n o =
     record {
       number = n;
@@ -170,7 +172,7 @@ row_of n o =
       ceiling = o.after.gauge.ceiling;
     }
 
-unfoldable pub printing : Run → ℕ → Outcome Answer Memory → Run
+unfoldable pub printing : Run → ℕ → Outcome Reply Memory → Run
 printing run next o =
     record {
       memory = o.after;
@@ -179,26 +181,22 @@ printing run next o =
       rows = run.rows ++ (row_of (suc run.numbered) o ∷ []);
     }
 
--- what an entry does. (Done does nothing, and is not printed.)
-unfoldable pub performed : List ℕ → Entry → Memory → Outcome Answer Memory
-performed j (Read key w) m = read_outcome m key w
-performed j (Update key w) m = update_outcome m key w
-performed j (Fill key place ticket) m = fill_outcome m key (picture_at j place) ticket
-performed j Age m = age_outcome m
-performed j (Entry.Refused n) m = outcome (Refused n) m
-performed j Done m = outcome Passed m
-
-unfoldable pub is_end : Entry → Bool
-is_end (Read key w) = false
-is_end (Update key w) = false
-is_end (Fill key place ticket) = false
-is_end Age = false
-is_end (Entry.Refused n) = false
-is_end Done = true
+-- what a record does
+unfoldable pub performed : List ℕ → Result Entry Refusal → Memory → Outcome Reply Memory
+performed j (Ok (Read key w)) m = read_outcome m key w
+performed j (Ok (Update key w)) m = update_outcome m key w
+performed j (Ok (Fill key place ticket)) m = fill_outcome m key (picture_at j place) ticket
+performed j (Ok Age) m = age_outcome m
+performed j (Err cause) m = outcome (Err cause) m
 
 -- | 7: all [left as it was]; the program reads on. 8: all; the program ends. Both are numbered and printed like the others.
+-- (Where none is left, nothing is done and nothing printed.)
+unfoldable pub carried : List ℕ → Run → ℕ → Option (Result Entry Refusal) → Run
+carried j run next None = run
+carried j run next (Some entry) = printing run next (performed j entry run.memory)
+
 unfoldable pub perform : List ℕ → Run → Decoded → Run
-perform j run d = if is_end d.entry then run else printing run d.next (performed j d.entry run.memory)
+perform j run d = carried j run d.next d.entry
 
 -- the next n records of a journal
 unfoldable pub run_for : List ℕ → Run → ℕ → Run

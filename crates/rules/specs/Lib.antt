@@ -1,5 +1,6 @@
 -- Document 01 as definitions that compute, in the paper's order, with document 02's requests where they change it. Each carries the paper's sentence that it stands for, behind a bar.
 pub mod Bytes
+pub mod Refusals
 pub mod Pass
 pub mod Table
 pub mod Answers

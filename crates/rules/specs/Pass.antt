@@ -1,29 +1,31 @@
 -- A pass over the first n elements f 0, f 1, ..: what it holds after each is decided by what it held, the element and its place.
 -- Everything that is looked for in the table is one of these, at a test and an order.
-use Rattle.std.specs.Prelude.{ℕ, zero, suc, ◌+◌, Bool, true, false, ◌&&◌, ltb, if◌then◌else◌}
+use Rattle.std.specs.Prelude.{ℕ, zero, suc, ◌+◌, Bool, true, false, ◌&&◌, ltb, if◌then◌else◌, Option, Some, None}
 use Rattle.rules.specs.declared.Record.{Record}
-use Rattle.rules.specs.declared.Found.{Found}
-use Rattle.rules.specs.declared.Found.TheVariants.{Nowhere, At}
 
 unfoldable pub pass : {A B : Type 0} → (A → ℕ → B → A) → A → (ℕ → B) → ℕ → A
 pass step held f zero = held
 pass step held f (suc n) = step (pass step held f n) n (f n)
 
+-- what a search of the table finds: the place of a record, with the record itself
+abbrev pub Found : Type 0
+Found = Option (ℕ × Record)
+
 -- | "First" means lowest place in the table
 unfoldable pub first : (Record → Bool) → Found → ℕ → Record → Found
-first test Nowhere i r = if test r then At i r else Nowhere
-first test (At j s) i r = At j s
+first test None i r = if test r then Some (i, r) else None
+first test (Some (j, s)) i r = Some (j, s)
 
 -- the one that no other beats, first among equals
 unfoldable pub best : (Record → Bool) → (Record → Record → Bool) → Found → ℕ → Record → Found
-best test beats Nowhere i r = if test r then At i r else Nowhere
-best test beats (At j s) i r = if test r && beats r s then At i r else At j s
+best test beats None i r = if test r then Some (i, r) else None
+best test beats (Some (j, s)) i r = if test r && beats r s then Some (i, r) else Some (j, s)
 
 unfoldable pub first_of : (Record → Bool) → (ℕ → Record) → ℕ → Found
-first_of test = pass (first test) Nowhere
+first_of test = pass (first test) None
 
 unfoldable pub best_of : (Record → Bool) → (Record → Record → Bool) → (ℕ → Record) → ℕ → Found
-best_of test beats = pass (best test beats) Nowhere
+best_of test beats = pass (best test beats) None
 
 unfoldable pub sum_of : {B : Type 0} → (B → ℕ) → (ℕ → B) → ℕ → ℕ
 sum_of amount = pass (λ sum i r. sum + amount r) 0

@@ -1,17 +1,16 @@
 -- The steps of age, read, update, fill, show and the levelled sum, on a memory that no refusal holds for (Calls.antt).
-use Rattle.std.specs.Prelude.{ℕ, ◌+◌, ◌≤◌, max, List, true, false, ltb, eqb, if◌then◌else◌}
+use Rattle.std.specs.Prelude.{ℕ, ◌+◌, ◌≤◌, max, List, true, false, ltb, eqb, if◌then◌else◌, Some, None, Ok, Err}
 use Rattle.std.proofs.Math.Option.{Option, none, some}
 use Rattle.rules.specs.declared.Record.{Record}
 use Rattle.rules.specs.declared.Gauge.{Gauge}
-use Rattle.rules.specs.declared.Found.{Found}
-use Rattle.rules.specs.declared.Found.TheVariants.{Nowhere, At}
 use Rattle.rules.specs.declared.Lookup.{Lookup}
 use Rattle.rules.specs.declared.Lookup.TheVariants.{Untracked, Unlined, Lined}
 use Rattle.rules.specs.declared.Answer.{Answer}
-use Rattle.rules.specs.declared.Answer.TheVariants.{Aged, Changed, Unknown, Stored, Passed, Hit, Wanted, Refused}
-use Rattle.rules.specs.Answers.{no_line, already_filled, stale_ticket}
+use Rattle.rules.specs.declared.Answer.TheVariants.{Aged, Changed, Unknown, Stored, Passed, Hit, Wanted}
+use Rattle.rules.specs.declared.Refusal.TheVariants.{NoLine, AlreadyFilled, StaleTicket}
+use Rattle.rules.specs.Answers.{Reply}
 use Rattle.rules.specs.Bytes.{put_line}
-use Rattle.rules.specs.Pass.{sum_of}
+use Rattle.rules.specs.Pass.{Found, sum_of}
 use Rattle.rules.specs.Table.{Memory, is_free, is_lined, is_filled, line_of, with_ticket, with_total, with_ceiling, with_serial, aged_record, half_down, heated, cooled, new_record, unlined, on_empty_line, emptied, filled, key_record, free_record, victim, coldest_lined, hottest_unlined, hotter, lowest_unused, lookup, most_total, places, size, line_total, with_table, with_gauge, with_lines, write, change_all}
 
 -- What a call does: its answer, and what it leaves of what it was lent.
@@ -31,8 +30,8 @@ unfoldable pub aged : Memory → Memory
 aged m = with_gauge (aged_gauge m.gauge) (with_table (change_all aged_record m.table (size m)) m)
 
 -- | Answer: aged.
-unfoldable pub age_steps : Memory → Outcome Answer Memory
-age_steps m = outcome Aged (aged m)
+unfoldable pub age_steps : Memory → Outcome Reply Memory
+age_steps m = outcome (Ok Aged) (aged m)
 
 -- ---- a ticket is given
 -- | Each time a line is taken, and each time an update reaches a class that keeps its line, the serial grows by 1 and becomes
@@ -85,8 +84,8 @@ evict m key w i v = track (raised v.heat m) key w i
 -- | its heat is greater than that of the coldest record on a line (first among equals), it takes that record's line and that
 -- | record's state becomes 1. (With C = 0 no record of a table in order is on a line.)
 unfoldable pub replace_coldest : Memory → ℕ → Found → Memory
-replace_coldest m i Nowhere = m
-replace_coldest m i (At j r) = if hotter (places m i) r then hand_over m j i else m
+replace_coldest m i None = m
+replace_coldest m i (Some (j, r)) = if hotter (places m i) r then hand_over m j i else m
 
 unfoldable pub promote : Memory → ℕ → ℕ → Memory
 promote m i n = if ltb n (line_total m) then give_line m i n else replace_coldest m i (coldest_lined (places m) (size m))
@@ -99,18 +98,18 @@ admit m i = if is_lined (places m i) then m else promote m i (lowest_unused (pla
 unfoldable pub read_answer : Record → Answer
 read_answer r = if is_filled r then Hit (line_of r) else if is_lined r then Wanted (line_of r) r.ticket else Passed
 
-unfoldable pub admission : ℕ → Memory → Outcome Answer Memory
-admission i m = outcome (read_answer (places (admit m i) i)) (admit m i)
+unfoldable pub admission : ℕ → Memory → Outcome Reply Memory
+admission i m = outcome (Ok (read_answer (places (admit m i) i))) (admit m i)
 
 -- | 2. Tracked key: its heat grows by w. 3. Untracked key with a free record: the first free one. 4. Untracked key, no free
 -- | record: the victim. (A table in order, with C under K, has a free record or a victim.)
-unfoldable pub place : Memory → ℕ → ℕ → Found → Found → Found → Outcome Answer Memory
-place m key w (At i r) free coldest = admission i (write m i (heated w r))
-place m key w Nowhere (At i r) coldest = admission i (track m key w i)
-place m key w Nowhere Nowhere (At i r) = admission i (evict m key w i r)
-place m key w Nowhere Nowhere Nowhere = outcome Passed m
+unfoldable pub place : Memory → ℕ → ℕ → Found → Found → Found → Outcome Reply Memory
+place m key w (Some (i, r)) free coldest = admission i (write m i (heated w r))
+place m key w None (Some (i, r)) coldest = admission i (track m key w i)
+place m key w None None (Some (i, r)) = admission i (evict m key w i r)
+place m key w None None None = outcome (Ok Passed) m
 
-unfoldable pub read_counted : Memory → ℕ → ℕ → Outcome Answer Memory
+unfoldable pub read_counted : Memory → ℕ → ℕ → Outcome Reply Memory
 read_counted m key w =
     place m key w
     (key_record key (places m) (size m))
@@ -118,58 +117,58 @@ read_counted m key w =
     (victim (places m) (size m))
 
 -- a read with a weight of 1 or more: steps 1 to 6
-unfoldable pub warm_steps : Memory → ℕ → ℕ → Outcome Answer Memory
+unfoldable pub warm_steps : Memory → ℕ → ℕ → Outcome Reply Memory
 warm_steps m key w = read_counted (grown w (decay_for w m)) key w
 
 -- a look, which is a read of weight 0 (document 02)
 -- | It answers hit, wanted or passed as the table stands, an untracked key being passed
 unfoldable pub peek_answer : Found → Answer
-peek_answer Nowhere = Passed
-peek_answer (At i r) = read_answer r
+peek_answer None = Passed
+peek_answer (Some (i, r)) = read_answer r
 
 -- | and changes nothing
-unfoldable pub peek_steps : Memory → ℕ → Outcome Answer Memory
-peek_steps m key = outcome (peek_answer (key_record key (places m) (size m))) m
+unfoldable pub peek_steps : Memory → ℕ → Outcome Reply Memory
+peek_steps m key = outcome (Ok (peek_answer (key_record key (places m) (size m)))) m
 
 -- | A read of weight 0 is now accepted. (Any other read is document 01's.)
-unfoldable pub read_steps : Memory → ℕ → ℕ → Outcome Answer Memory
+unfoldable pub read_steps : Memory → ℕ → ℕ → Outcome Reply Memory
 read_steps m key w = if eqb w 0 then peek_steps m key else warm_steps m key w
 
 -- ---- Update
 -- | If it has a line and the hottest record without one (first among equals) is now strictly hotter, that record takes the
 -- | line, empty, and the key's state becomes 1. (Otherwise it keeps its line, and gets a new ticket: document 02.)
 unfoldable pub demote_for : Memory → ℕ → Found → Memory
-demote_for m i Nowhere = renew m i
-demote_for m i (At j r) = if hotter r (places m i) then hand_over m i j else renew m i
+demote_for m i None = renew m i
+demote_for m i (Some (j, r)) = if hotter r (places m i) then hand_over m i j else renew m i
 
 unfoldable pub demote : Memory → ℕ → Memory
 demote m i = if is_lined (places m i) then demote_for m i (hottest_unlined (places m) (size m)) else m
 
 -- | An untracked key changes nothing; answer: unknown. Otherwise its heat falls by w, not below 0, and a line it has becomes
 -- | empty. .. Answer: changed.
-unfoldable pub change : Memory → ℕ → Found → Outcome Answer Memory
-change m w Nowhere = outcome Unknown m
-change m w (At i r) = outcome Changed (demote (write m i (emptied (cooled w r))) i)
+unfoldable pub change : Memory → ℕ → Found → Outcome Reply Memory
+change m w None = outcome (Ok Unknown) m
+change m w (Some (i, r)) = outcome (Ok Changed) (demote (write m i (emptied (cooled w r))) i)
 
-unfoldable pub update_steps : Memory → ℕ → ℕ → Outcome Answer Memory
+unfoldable pub update_steps : Memory → ℕ → ℕ → Outcome Reply Memory
 update_steps m key w = change m w (key_record key (places m) (size m))
 
 -- ---- Fill
 -- | the 64 bytes are written into that line's part of the lent lines, and the state becomes filled. Answer: stored.
-unfoldable pub store_in : Memory → ℕ → ℕ → List ℕ → Outcome Answer Memory
-store_in m i n picture = outcome Stored (with_lines (put_line m.lines n picture) (write m i (filled (places m i))))
+unfoldable pub store_in : Memory → ℕ → ℕ → List ℕ → Outcome Reply Memory
+store_in m i n picture = outcome (Ok Stored) (with_lines (put_line m.lines n picture) (write m i (filled (places m i))))
 
 -- | if there is none, or it has no line, the call ends there with 5; if the line is filled, with 6. .. a fill must bring [the
 -- | ticket] back .. 9, a fill with another ticket, tested after 6 (document 02). Otherwise the 64 bytes are written
-unfoldable pub store : Memory → List ℕ → ℕ → Lookup → Outcome Answer Memory
-store m picture ticket Untracked = outcome (Refused no_line) m
-store m picture ticket Unlined = outcome (Refused no_line) m
-store m picture ticket (Lined i n true given) = outcome (Refused already_filled) m
+unfoldable pub store : Memory → List ℕ → ℕ → Lookup → Outcome Reply Memory
+store m picture ticket Untracked = outcome (Err NoLine) m
+store m picture ticket Unlined = outcome (Err NoLine) m
+store m picture ticket (Lined i n true given) = outcome (Err AlreadyFilled) m
 store m picture ticket (Lined i n false given) =
-    if eqb ticket given then store_in m i n picture else outcome (Refused stale_ticket) m
+    if eqb ticket given then store_in m i n picture else outcome (Err StaleTicket) m
 
 -- | The key's record is looked up
-unfoldable pub fill_steps : Memory → ℕ → List ℕ → ℕ → Outcome Answer Memory
+unfoldable pub fill_steps : Memory → ℕ → List ℕ → ℕ → Outcome Reply Memory
 fill_steps m key picture ticket = store m picture ticket (lookup (places m) (size m) key)
 
 -- ---- Show

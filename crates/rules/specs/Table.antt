@@ -1,13 +1,11 @@
 -- What a record's state says, what can happen to a record, what is looked for in a table, and when a table is in order.
-use Rattle.std.specs.Prelude.{ℕ, zero, suc, ◌+◌, ◌*◌, ◌-◌, ◌/◌, ◌%◌, List, Bool, ◌&&◌, ◌||◌, length, replicate, ltb, leb, eqb, if◌then◌else◌}
+use Rattle.std.specs.Prelude.{ℕ, zero, suc, ◌+◌, ◌*◌, ◌-◌, ◌/◌, ◌%◌, List, Bool, ◌&&◌, ◌||◌, length, replicate, ltb, leb, eqb, if◌then◌else◌, Some, None}
 use Rattle.rules.specs.declared.Record.{Record}
 use Rattle.rules.specs.declared.Gauge.{Gauge}
-use Rattle.rules.specs.declared.Found.{Found}
-use Rattle.rules.specs.declared.Found.TheVariants.{Nowhere, At}
 use Rattle.rules.specs.declared.Lookup.{Lookup}
 use Rattle.rules.specs.declared.Lookup.TheVariants.{Untracked, Unlined, Lined}
 use Rattle.rules.specs.Bytes.{record_at, put_record, record_count, line_count}
-use Rattle.rules.specs.Pass.{first_of, best_of, count_of, all_of, any_of, lowest_not}
+use Rattle.rules.specs.Pass.{Found, first_of, best_of, count_of, all_of, any_of, lowest_not}
 
 -- What a call is lent. A C host lends the gauge as bytes (Calls.antt).
 pub record Memory : Type 0 where
@@ -152,8 +150,8 @@ lowest_unused f n lines = lowest_not (is_used f n) lines
 
 -- | The key's record is looked up; if there is none, or it has no line ..; if the line is filled ..
 unfoldable pub looked_up : Found → Lookup
-looked_up Nowhere = Untracked
-looked_up (At i r) = if is_lined r then Lined i (line_of r) (is_filled r) r.ticket else Unlined
+looked_up None = Untracked
+looked_up (Some (i, r)) = if is_lined r then Lined i (line_of r) (is_filled r) r.ticket else Unlined
 
 unfoldable pub lookup : (ℕ → Record) → ℕ → ℕ → Lookup
 lookup f n key = looked_up (key_record key f n)

@@ -2,6 +2,9 @@
 // them, is in specs/.
 #![tactic(auto)]
 
+ghost use Rattle.std.specs.Prelude.{◌≡◌};
+ghost use Rattle.rules.specs.Refusals.{number};
+
 // L: the most that the total may be.
 pub const MOST_TOTAL: u64 = 4294967295;
 // The most that a read or an update may weigh.
@@ -11,29 +14,31 @@ pub const SERIAL_LIMIT: u64 = 9223372036854775808;
 // The most records that a table may have.
 pub const MOST_RECORDS: usize = 1024;
 
-// The causes of refusal.
-pub const WRONG_SIZES: u64 = 1;
+// The causes of refusal. A caller in C is told them by number.
+#[derive(Clone, Copy, Debug, PartialEq, Eq)]
+pub enum Refusal {
+    WrongSizes = 1,
+    WrongWeight = 2,
+    NotInOrder = 3,
+    WrongPicture = 4,
+    NoLine = 5,
+    AlreadyFilled = 6,
+    UnknownForm = 7,
+    ShortEnd = 8,
+    StaleTicket = 9,
+    SerialSpent = 10,
+}
 
-pub const WRONG_WEIGHT: u64 = 2;
+impl From<Refusal> for u64 {
+    ghost from_gives = { λ cause n. n ≡ number cause };
 
-pub const NOT_IN_ORDER: u64 = 3;
-
-pub const WRONG_PICTURE: u64 = 4;
-
-pub const NO_LINE: u64 = 5;
-
-pub const ALREADY_FILLED: u64 = 6;
-
-pub const UNKNOWN_FORM: u64 = 7;
-
-pub const SHORT_END: u64 = 8;
-
-pub const STALE_TICKET: u64 = 9;
-
-pub const SERIAL_SPENT: u64 = 10;
+    fn from(cause: Refusal) -> u64 {
+        cause as u64
+    }
+}
 
 // One of the table's records: a class that is tracked, or a free place.
-#[derive(Clone, Copy)]
+#[derive(Clone, Copy, PartialEq, Eq, Default)]
 pub struct Record {
     // The class.
     pub key: u64,
@@ -48,7 +53,7 @@ pub struct Record {
 }
 
 // The three numbers that go with a table.
-#[derive(Clone, Copy)]
+#[derive(Clone, Copy, PartialEq, Eq, Default)]
 pub struct Gauge {
     // All weight read so far, halved by each aging.
     pub total: u64,
@@ -58,15 +63,8 @@ pub struct Gauge {
     pub serial: u64,
 }
 
-// What a search of the table finds: the place of a record, with the record itself.
-#[derive(Clone, Copy)]
-pub enum Found {
-    Nowhere,
-    At(usize, Record),
-}
-
 // A key, looked up.
-#[derive(Clone, Copy)]
+#[derive(Clone, Copy, Debug, PartialEq, Eq)]
 pub enum Lookup {
     // No record.
     Untracked,
@@ -81,8 +79,8 @@ pub enum Lookup {
     },
 }
 
-// The answer of a read, update, fill or aging.
-#[derive(Clone, Copy)]
+// The answer of a read, update, fill or aging that is not refused.
+#[derive(Clone, Copy, Debug, PartialEq, Eq)]
 pub enum Answer {
     Aged,
     Changed,
@@ -92,46 +90,10 @@ pub enum Answer {
     Hit(u64),
     // The line, and the ticket that its fill has to bring.
     Wanted(u64, u64),
-    Refused(u64),
-}
-
-// A read, update or aging's answer, with the gauge after it.
-#[derive(Clone, Copy)]
-pub struct Reply {
-    pub answer: Answer,
-    pub gauge: Gauge,
-}
-
-// The answer of a call that has no named answer.
-#[derive(Clone, Copy)]
-pub enum Completion {
-    Done,
-    Refused(u64),
-}
-
-// Fresh's answer, with the gauge after it.
-#[derive(Clone, Copy)]
-pub struct Started {
-    pub answer: Completion,
-    pub gauge: Gauge,
-}
-
-// Whether a call is refused before its steps, and with which number.
-#[derive(Clone, Copy)]
-pub enum Verdict {
-    Accepted,
-    Refused(u64),
-}
-
-// The answer of the levelled sum.
-#[derive(Clone, Copy)]
-pub enum Levels {
-    Sum(u64),
-    Refused(u64),
 }
 
 // One journal record, decoded. A fill's picture is given by its place in the journal.
-#[derive(Clone, Copy)]
+#[derive(Clone, Copy, Debug, PartialEq, Eq)]
 pub enum Entry {
     Read {
         key: u64,
@@ -147,13 +109,29 @@ pub enum Entry {
         ticket: u64,
     },
     Age,
-    Refused(u64),
-    Done,
 }
 
-// What reading the journal at a position gives: the entry, and the position after it.
+// What reading the journal at a position gives: the entry, if there is one left and it is not refused, and the position after it.
 #[derive(Clone, Copy)]
 pub struct Decoded {
-    pub entry: Entry,
+    pub entry: Option<Result<Entry, Refusal>>,
     pub next: usize,
+}
+
+// ---- what a call is lent
+
+// To look at.
+#[derive(Clone, Copy)]
+pub struct View<'a> {
+    pub table: &'a [u8],
+    pub gauge: Gauge,
+    pub lines: &'a [u8],
+}
+
+// To change: the table where it lies, the gauge as it has become so far. The lines' bytes stay.
+#[derive(Drop)]
+pub struct Hub<'a> {
+    pub table: &'a mut [u8],
+    pub gauge: Gauge,
+    pub lines: &'a [u8],
 }

@@ -7,12 +7,13 @@ use mathlib.Core.Path.{◌≡◌}
 use native.Mathlib.Omega.{arith}
 use borrow.Author.Tests.{le-leb, lt-ltb}
 use lib.ListN.{length, length-append}
-use Rattle.rules.specs.declared.Answer.{Answer}
+use Rattle.std.specs.Prelude.{Option, Some, None, Result}
+use Rattle.rules.specs.declared.Entry.{Entry}
+use Rattle.rules.specs.declared.Refusal.{Refusal}
 use Rattle.rules.specs.declared.Decoded.{Decoded}
 use Rattle.rules.specs.Table.{Memory}
 use Rattle.rules.specs.Steps.{Outcome}
-use Rattle.rules.specs.Journal.{Run, entry_at, entry_count, is_end, perform, performed, printed_all, printing, run_for}
-use Rattle.std.specs.Prelude.{if◌then◌else◌}
+use Rattle.rules.specs.Journal.{Run, entry_at, entry_count, carried, perform, performed, printed_all, printing, run_for}
 use Rattle.rules.proofs.Searches.{lowest_none}
 use Rattle.rows.specs.Written.{row_size}
 use Rattle.rows.proofs.Sizes.{row_short}
@@ -26,14 +27,14 @@ record Adds (n : ℕ) (r s : Run) : Type 0 where
 
 module _ (journal : List ℕ) where
   step_adds : (r : Run) (d : Decoded) → Adds 1 r (perform journal r d)
-  unfolding perform printing
-  step_adds r d = go (is_end d.entry) (performed journal d.entry r.memory)
+  unfolding perform carried printing
+  step_adds r d = go d.entry
     where
-      go : (b : Bool) (o : Outcome Answer Memory) → Adds 1 r (if b then r else printing r d.next o)
-      go true o = record { rows = omega arith; numbers = omega arith }
-      go false o =
+      go : (x : Option (Result Entry Refusal)) → Adds 1 r (carried journal r d.next x)
+      go None = record { rows = omega arith; numbers = omega arith }
+      go (Some entry) =
           record {
-            rows = rw printed_last (simp length-append (omega (arith, row_short (suc r.numbered) o)));
+            rows = rw printed_last (simp length-append (omega (arith, row_short (suc r.numbered) (performed journal entry r.memory))));
             numbers = omega arith;
           }
 

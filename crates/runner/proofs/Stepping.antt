@@ -3,23 +3,25 @@
 use Prim.Native.Nat.{ℕ, suc, ◌+◌, ◌-◌, ◌≤◌}
 use mathlib.Core.Bool.{Bool, true, false, ◌&&◌}
 use mathlib.Core.List.{List}
-use mathlib.Core.Path.{◌≡◌, refl, sym, ap}
+use mathlib.Core.Path.{◌≡◌, refl, sym, ap, subst}
 use mathlib.Core.Logic.{◌≢◌}
 use native.Mathlib.Omega.{arith}
 use borrow.Author.Tests.{leb-false, ltb-false}
 use denote.Enum.Declared.{tag_of}
 use lib.Dec.{ltb, leb, eqb}
 use lib.ListN.{length}
-use Rattle.rules.specs.declared.Answer.{Answer}
+use Rattle.std.specs.Prelude.{Option, Some, None, Result, Ok, Err}
+use Rattle.rules.specs.declared.Refusal.{Refusal}
+use Rattle.rules.specs.declared.Refusal.TheVariants.{UnknownForm, ShortEnd}
 use Rattle.rules.specs.declared.Entry.{Entry}
-use Rattle.rules.specs.declared.Entry.TheVariants.{Read, Update, Fill, Age, Refused, Done}
+use Rattle.rules.specs.declared.Entry.TheVariants.{Read, Update, Fill, Age}
 use Rattle.rules.specs.declared.Decoded.{Decoded}
 use Rattle.rules.specs.contracts.Entry.{the_type}
-use Rattle.rules.specs.Answers.{unknown_form, short_end, read_kind, update_kind, fill_kind, age_kind}
+use Rattle.rules.specs.Answers.{Reply, read_kind, update_kind, fill_kind, age_kind}
 use Rattle.std.specs.Prelude.{if◌then◌else◌}
 use Rattle.rules.specs.Table.{Memory}
 use Rattle.rules.specs.Steps.{Outcome}
-use Rattle.rules.specs.Journal.{Run, entry_size, kind_at, gaps_zero, picture_zero, weight_zero, key_zero, ticket_zero, key_at, weight_at, ticket_at, whole_entry, of_form, picture_place, decoded, entry_at, printed, row_of, printing, performed, is_end, perform}
+use Rattle.rules.specs.Journal.{Run, entry_size, kind_at, gaps_zero, picture_zero, weight_zero, key_zero, ticket_zero, key_at, weight_at, ticket_at, whole_entry, of_form, picture_place, decoded, entry_at, printed, row_of, printing, performed, carried, perform}
 use Rattle.runner.specs.declared.Progress.{Progress}
 use Rattle.rows.specs.Written.{row_size, Puts}
 use Rattle.runner.specs.Progress.{PictureInside, Runs, Steps}
@@ -28,19 +30,23 @@ use Rattle.rows.proofs.Written.{written_length, puts_join, printed_last}
 
 -- ---- pictures
 module _ (journal : List ℕ) where
-  -- an entry of another kind has no picture
-  no_fill : (entry : Entry) → tag_of the_type entry ≢ 2 → PictureInside journal entry
-  no_fill entry other = record { inside = λ key place ticket e. absurd (other (ap (λ (x : Entry). tag_of the_type x) e)) }
+  -- a refused record has no picture
+  refused : (cause : Refusal) → PictureInside journal (Err cause)
+  refused cause = record { inside = λ key place ticket e. let z : ◌≡◌ {A = ℕ} 0 1 = cc in absurd (omega arith) }
 
-  either : {A : Type 0} (entry : A → Entry) (b : Bool) (x y : A) → PictureInside journal (entry x) →
-      (b ≡ false → PictureInside journal (entry y)) → PictureInside journal (entry (if b then x else y))
-  either entry true x y first rest = first
-  either entry false x y first rest = rest refl
+  -- nor has an entry of another kind
+  no_fill : (entry : Entry) → tag_of the_type entry ≢ 2 → PictureInside journal (Ok entry)
+  no_fill entry other =
+      record { inside = λ key place ticket e. let same : entry ≡ Fill key place ticket = cc in absurd (other (ap (λ (x : Entry). tag_of the_type x) same)) }
 
-  formed : (good : Bool) (entry : Entry) → PictureInside journal entry → PictureInside journal (of_form good entry)
+  either : (b : Bool) (x y : Result Entry Refusal) → PictureInside journal x → PictureInside journal y → PictureInside journal (if b then x else y)
+  either true x y first rest = first
+  either false x y first rest = rest
+
+  formed : (good : Bool) (entry : Entry) → PictureInside journal (Ok entry) → PictureInside journal (of_form good entry)
   unfolding of_form
   formed true entry first = first
-  formed false entry first = no_fill (Refused unknown_form) (omega arith)
+  formed false entry first = refused UnknownForm
 
   whole_inside : (at : ℕ) → at + entry_size ≤ length journal → PictureInside journal (whole_entry journal at)
   unfolding whole_entry picture_place
@@ -50,44 +56,56 @@ module _ (journal : List ℕ) where
       let gaps = gaps_zero journal at in
       let blank = picture_zero journal at in
       let bare = ticket_zero journal at in
-      either (λ x. x) (eqb (kind_at journal at) read_kind) _ _ (formed (gaps && blank && bare) _ (no_fill (Read key weight) (omega arith))) λ _.
-      either (λ x. x) (eqb (kind_at journal at) update_kind) _ _ (formed (gaps && blank && bare) _ (no_fill (Update key weight) (omega arith))) λ _.
-      either (λ x. x) (eqb (kind_at journal at) fill_kind) _ _ (formed (gaps && weight_zero journal at) _ (fill key (ticket_at journal at))) λ _.
-      formed
+      either (eqb (kind_at journal at) read_kind) _ _ (formed (gaps && blank && bare) _ (no_fill (Read key weight) (omega arith)))
+      (either (eqb (kind_at journal at) update_kind) _ _ (formed (gaps && blank && bare) _ (no_fill (Update key weight) (omega arith)))
+      (either (eqb (kind_at journal at) fill_kind) _ _ (formed (gaps && weight_zero journal at) _ (fill key (ticket_at journal at)))
+      (formed
       (eqb (kind_at journal at) age_kind && gaps && weight_zero journal at && blank && key_zero journal at && bare)
       _
-      (no_fill Age (omega arith))
+      (no_fill Age (omega arith)))))
     where
-      fill : (key ticket : ℕ) → PictureInside journal (Fill key (at + 16) ticket)
+      fill : (key ticket : ℕ) → PictureInside journal (Ok (Fill key (at + 16) ticket))
       fill key ticket = record { inside = λ k place t e. let same : at + 16 ≡ place = cc in omega arith }
 
-  pub picture_inside : (at : ℕ) → PictureInside journal (entry_at journal at).entry
+  pub picture_inside : (at : ℕ) (entry : Result Entry Refusal) → (entry_at journal at).entry ≡ Some entry → PictureInside journal entry
   unfolding entry_at decoded
-  picture_inside at =
-      either (λ (d : Decoded). d.entry) (leb (length journal) at) _ _ (no_fill Done (omega arith)) λ more.
-      either (λ (d : Decoded). d.entry) (ltb (length journal - at) entry_size) _ _ (no_fill (Refused short_end) (omega arith)) λ full.
-      whole_inside at (omega (arith, leb-false (length journal) at more, ltb-false (length journal - at) entry_size full))
+  picture_inside at entry e = go (leb (length journal) at) (ltb (length journal - at) entry_size) refl refl e
+    where
+      there : Bool → Bool → Option (Result Entry Refusal)
+      there none_left few =
+          (if none_left
+          then decoded None at
+          else if few then decoded (Some (Err ShortEnd)) at else decoded (Some (whole_entry journal at)) (at + entry_size)).entry
+
+      go : (none_left few : Bool) → leb (length journal) at ≡ none_left → ltb (length journal - at) entry_size ≡ few →
+          there none_left few ≡ Some entry → PictureInside journal entry
+      go true few more short e = let z : ◌≡◌ {A = ℕ} 0 1 = cc in absurd (omega arith)
+      go false true more short e = let same : Err ShortEnd ≡ entry = cc in subst (PictureInside journal) same (refused ShortEnd)
+      go false false more short e =
+          let same : whole_entry journal at ≡ entry = cc in
+          subst (PictureInside journal) same
+          (whole_inside at (omega (arith, leb-false (length journal) at more, ltb-false (length journal - at) entry_size short)))
 
 -- ---- steps
 module _ (journal : List ℕ) (p : Progress) (m : Memory) (out : List ℕ) where
-  pub ended : is_end (entry_at journal p.at).entry ≡ true → Steps journal p m out p m out
-  unfolding perform
+  pub ended : (entry_at journal p.at).entry ≡ None → Steps journal p m out p m out
+  unfolding perform carried
   ended ends = record { runs = λ run out₀ same r. rw (rw r.at at ends) r }
 
-  pub carried_on : (q : Progress) (out' : List ℕ) (o : Outcome Answer Memory) → is_end (entry_at journal p.at).entry ≡ false →
-      o ≡ performed journal (entry_at journal p.at).entry m → q.at ≡ (entry_at journal p.at).next → q.numbered ≡ p.numbered + 1 →
+  pub carried_on : (q : Progress) (out' : List ℕ) (o : Outcome Reply Memory) (entry : Result Entry Refusal) →
+      (entry_at journal p.at).entry ≡ Some entry → o ≡ performed journal entry m → q.at ≡ (entry_at journal p.at).next → q.numbered ≡ p.numbered + 1 →
       Puts out p.end (printed (row_of q.numbered o)) q.end out' → p.end + row_size ≤ length out →
       Steps journal p m out q o.after out'
-  unfolding perform printing
-  carried_on q out' o more does next counts puts room =
-      record { runs = λ run out₀ same r. rw (carried run out₀ r) (rows run out₀ same r) }
+  unfolding perform carried printing
+  carried_on q out' o entry more does next counts puts room =
+      record { runs = λ run out₀ same r. rw (goes run out₀ r) (rows run out₀ same r) }
     where
-      carried : (run : Run) (out₀ : List ℕ) → Runs run out₀ p m out → perform journal run (entry_at journal run.at) ≡ printing run q.at o
-      carried run out₀ r =
-          let goes : is_end (entry_at journal run.at).entry ≡ false = rw r.at at more in
-          let did : o ≡ performed journal (entry_at journal run.at).entry run.memory = rw (r.at, r.memory) at does in
+      goes : (run : Run) (out₀ : List ℕ) → Runs run out₀ p m out → perform journal run (entry_at journal run.at) ≡ printing run q.at o
+      goes run out₀ r =
+          let there : (entry_at journal run.at).entry ≡ Some entry = rw r.at at more in
+          let did : o ≡ performed journal entry run.memory = rw r.memory at does in
           let follows : q.at ≡ (entry_at journal run.at).next = rw r.at at next in
-          rw goes (cc)
+          rw there (cc)
 
       rows : (run : Run) (out₀ : List ℕ) → length out₀ ≡ length out → Runs run out₀ p m out →
           Runs (printing run q.at o) out₀ q o.after out'

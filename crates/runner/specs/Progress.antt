@@ -1,5 +1,6 @@
 -- What a step and a run of a journal give, in the words of their contracts.
-use Rattle.std.specs.Prelude.{ℕ, ◌+◌, ◌≤◌, ◌^◌, ◌≡◌, List, Bool, ◌&&◌, length, ltb, leb, eqb}
+use Rattle.std.specs.Prelude.{ℕ, ◌+◌, ◌≤◌, ◌^◌, ◌≡◌, List, Bool, ◌&&◌, length, ltb, leb, eqb, Result, Ok}
+use Rattle.rules.specs.declared.Refusal.{Refusal}
 use Rattle.rules.specs.declared.Entry.{Entry}
 use Rattle.rules.specs.declared.Entry.TheVariants.{Fill}
 use Rattle.rules.specs.Bytes.{line_size}
@@ -11,8 +12,8 @@ use Rattle.runner.specs.declared.Ended.{Ended}
 use Rattle.rows.specs.Written.{row_size, Puts}
 
 -- a fill's picture lies in the journal
-pub record PictureInside (journal : List ℕ) (entry : Entry) : Type 0 where
-  pub inside : (key place ticket : ℕ) → entry ≡ Fill key place ticket → place + line_size ≤ length journal
+pub record PictureInside (journal : List ℕ) (entry : Result Entry Refusal) : Type 0 where
+  pub inside : (key place ticket : ℕ) → entry ≡ Ok (Fill key place ticket) → place + line_size ≤ length journal
 
 -- a run has come so far: memory and numbers are the run's, and its rows are written from the start of what the output was
 pub record Runs (run : Run) (out₀ : List ℕ) (q : Progress) (m : Memory) (out : List ℕ) : Type 0 where

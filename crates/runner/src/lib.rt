@@ -2,30 +2,30 @@
 #![tactic(auto)]
 
 ghost use Rattle.std.specs.Prelude.{◌≡◌, ◌+◌, ◌≤◌, ◌<◌, ◌^◌, length};
-ghost use Rattle.rules.specs.Journal.{performed, is_end, going_on};
-ghost use Rattle.rules.specs.Calls.{lent, left};
+ghost use Rattle.rules.specs.Journal.{performed, going_on};
+ghost use Rattle.rules.specs.Calls.{lent};
+ghost use Rattle.rules.specs.Steps.{outcome};
 ghost use Rattle.rows.specs.Written.{row_size};
 ghost use Rattle.runner.specs.Progress.{PictureInside, Steps, room_for, Ends};
 
-use journal::{ENTRY_SIZE, read_at};
+use journal::{ENTRY_SIZE, decode};
 use records::LINE_SIZE;
 use rows::{ROW_SIZE, put_row};
-use rules::{Answer, Entry, Gauge, Reply};
+use rules::{Answer, Entry, Gauge, Refusal};
 
-#[tactic(auto, unfolding(rules::specs::Journal::is_end))]
-fn is_end(entry: Entry) -> bool
-    ensures { result ≡ is_end entry }
-{
-    if let Entry::Done = entry { true } else { false }
-}
-
-// Does what an entry says, on the cache. An end of the journal is nothing to do.
+// Does what a record says, on the cache.
 #[tactic(auto, unfolding(rules::specs::Journal::performed, rules::specs::Journal::picture_at))]
-fn perform(table: &mut [u8], gauge: Gauge, lines: &mut [u8], journal: &[u8], entry: Entry) -> Reply
+fn perform(
+    table: &mut [u8],
+    gauge: &mut Gauge,
+    lines: &mut [u8],
+    journal: &[u8],
+    entry: Result<Entry, Refusal>,
+) -> Result<Answer, Refusal>
     requires { PictureInside journal.now entry }
-    ensures { left result table.new lines.new ≡ performed journal.now entry (lent table.old gauge lines.old) }
+    ensures { outcome result (lent table.new gauge.new lines.new) ≡ performed journal.now entry (lent table.old gauge.old lines.old) }
 {
-    match entry {
+    match entry? {
         Entry::Read { key, weight } => cache::read(table, gauge, lines, key, weight),
         Entry::Update { key, weight } => cache::update(table, gauge, lines, key, weight),
         Entry::Fill {
@@ -33,25 +33,10 @@ fn perform(table: &mut [u8], gauge: Gauge, lines: &mut [u8], journal: &[u8], ent
             picture,
             ticket,
         } => {
-            let answer = cache::fill(
-                table,
-                gauge,
-                lines,
-                key,
-                &journal[picture..picture + LINE_SIZE],
-                ticket,
-            );
-            Reply { answer, gauge }
+            let bytes = &journal[picture..picture + LINE_SIZE];
+            cache::fill(table, *gauge, lines, key, bytes, ticket)
         }
         Entry::Age => cache::age(table, gauge, lines),
-        Entry::Refused(n) => Reply {
-            answer: Answer::Refused(n),
-            gauge,
-        },
-        Entry::Done => Reply {
-            answer: Answer::Passed,
-            gauge,
-        },
     }
 }
 
@@ -66,33 +51,19 @@ pub struct Progress {
 
 // One record: it is done, and its row is written.
 #[tactic(auto, unfolding(rules::specs::Journal::row_of))]
-fn step(table: &mut [u8], lines: &mut [u8], journal: &[u8], out: &mut [u8], p: Progress) -> Progress
-    requires { (p.end + row_size ≤ length out.old) × (p.numbered + 1 < 2 ^ 64) }
-    ensures { Steps journal.now p (lent table.old p.gauge lines.old) out.old result (lent table.new result.gauge lines.new) out.new }
+fn step(table: &mut [u8], lines: &mut [u8], journal: &[u8], out: &mut [u8], p: &mut Progress)
+    requires { (p.old.end + row_size ≤ length out.old) × (p.old.numbered + 1 < 2 ^ 64) }
+    ensures { Steps journal.now p.old (lent table.old p.old.gauge lines.old) out.old p.new (lent table.new p.new.gauge lines.new) out.new }
 {
-    let at = p.at;
-    let d = read_at(journal, at);
-    let entry = d.entry;
-    if is_end(entry) {
-        return p;
-    }
-    let number = p.numbered + 1;
-    let end = p.end;
-    let before = p.gauge;
-    let reply = perform(table, before, lines, journal, entry);
-    let answer = reply.answer;
-    let gauge = reply.gauge;
-    let after = put_row(out, end, number, answer, gauge);
-    Progress {
-        gauge,
-        at: d.next,
-        end: after,
-        numbered: number,
-    }
+    let d = decode(journal, p.at);
+    let Some(entry) = d.entry else {
+        return;
+    };
+    let reply = perform(table, &mut p.gauge, lines, journal, entry);
+    p.at = d.next;
+    p.numbered += 1;
+    p.end = put_row(out, p.end, p.numbered, reply, p.gauge);
 }
-
-// The most that a row's number can be.
-const MOST_NUMBER: u64 = 18446744073709551615;
 
 // Whether one more row has room in an output of so many bytes, and a number.
 #[tactic(auto, unfolding(crate::specs::Progress::room_for))]
@@ -100,10 +71,11 @@ fn has_room(most: usize, p: Progress) -> bool
     requires { p.end ≤ most }
     ensures { result ≡ room_for most p.end p.numbered }
 {
-    (ROW_SIZE <= most - p.end) & (p.numbered < MOST_NUMBER)
+    ROW_SIZE <= most - p.end && p.numbered < u64::MAX
 }
 
-// How far a run came, and whether that is the whole journal. Where it is not, the next row found no room.
+// How far a run came, and whether that is the whole journal. Where it is not, the next row found no room. (No enum: how far it came is
+// there in both cases, and callers want it without asking which.)
 #[derive(Clone, Copy)]
 pub struct Ended {
     pub progress: Progress,
@@ -123,26 +95,23 @@ pub fn run(
 ) -> Ended
     ensures { Ends journal.now (going_on (lent table.old gauge lines.old) numbered) out.old result (lent table.new result.progress.gauge lines.new) out.new }
 {
-    let n = (journal.len() + (ENTRY_SIZE - 1)) / ENTRY_SIZE;
-    let mut p = Progress {
+    let mut progress = Progress {
         gauge,
         at: 0,
         end: 0,
         numbered,
     };
-    let mut i = 0;
-    while i < n {
-        if !has_room(out.len(), p) {
+    for i in 0..journal.len().div_ceil(ENTRY_SIZE) {
+        if !has_room(out.len(), progress) {
             return Ended {
-                progress: p,
+                progress,
                 whole: false,
             };
         }
-        p = step(table, lines, journal, out, p);
-        i += 1;
+        step(table, lines, journal, out, &mut progress);
     }
     Ended {
-        progress: p,
+        progress,
         whole: true,
     }
 }

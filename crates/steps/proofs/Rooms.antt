@@ -11,14 +11,13 @@ use Rattle.rules.specs.Replay.{at}
 use Rattle.rules.specs.Table.{Memory, aged_record, half_down, new_record, most_total, places, size, line_total, with_table, with_gauge, write}
 use Rattle.rules.specs.Steps.{aged, aged_gauge, track}
 use Rattle.rules.specs.Calls.{most_weight, serial_limit, sizes_good, order_good}
-use Rattle.rules.proofs.Words.{IsBytes}
 use Rattle.rules.proofs.Places.{IsRecord}
 use Rattle.rules.proofs.Changes.{at_same, at_other}
-use Rattle.rules.proofs.Memories.{sizes_say, places_write, size_write, places_aged, size_aged}
+use Rattle.rules.proofs.Memories.{sizes_say, places_write, size_write, size_aged}
 use Rattle.rules.proofs.InOrder.{in_order_says}
 use Rattle.tracker.specs.Claiming.{largest}
 use Rattle.lines.specs.Room.{LinesFit, HeatsBelow}
-use Rattle.steps.specs.Room.{HeatsFit}
+use Rattle.steps.specs.Room.{HeatsFit, EachAged}
 
 pub order_fits : (m : Memory) → sizes_good m.table m.lines ≡ true → order_good m ≡ true →
     (m.gauge.total ≤ most_total) × HeatsFit m × LinesFit m
@@ -81,21 +80,22 @@ unfolding with_gauge places size
 heats_gauge m g fits most = record { ceiling = most; heat = fits.heat }
 
 -- what holds of every record once it is aged holds of every record of an aged memory
-aged_keeps : (P : Record → Type 0) (m : Memory) → IsBytes m.table → ((i : ℕ) → i < size m → P (aged_record (places m i))) →
+aged_keeps : (P : Record → Type 0) (m : Memory) → EachAged m.table (aged m).table → ((i : ℕ) → i < size m → P (aged_record (places m i))) →
     (i : ℕ) → i < size (aged m) → P (places (aged m) i)
-aged_keeps P m bytes holds i inside =
+unfolding places size
+aged_keeps P m each holds i inside =
     let within : i < size m = rw (size_aged m) at inside in
-    rw (places_aged m bytes i within) (holds i within)
+    rw (each i within) (holds i within)
 
-pub aged_heats : (m : Memory) → IsBytes m.table → HeatsFit m → HeatsFit (aged m)
+pub aged_heats : (m : Memory) → EachAged m.table (aged m).table → HeatsFit m → HeatsFit (aged m)
 unfolding aged aged_gauge with_gauge aged_record half_down
-aged_heats m bytes fits =
+aged_heats m each fits =
     record {
       ceiling = omega (arith, fits.ceiling);
-      heat = aged_keeps (λ r. r.heat ≤ most_total) m bytes (λ i within. omega (arith, fits.heat i within));
+      heat = aged_keeps (λ r. r.heat ≤ most_total) m each (λ i within. omega (arith, fits.heat i within));
     }
 
-pub aged_lines : (m : Memory) → IsBytes m.table → LinesFit m → LinesFit (aged m)
+pub aged_lines : (m : Memory) → EachAged m.table (aged m).table → LinesFit m → LinesFit (aged m)
 unfolding aged_record line_total aged with_gauge with_table
-aged_lines m bytes fits =
-    record { state = aged_keeps (λ r. r.state ≤ 1 + 2 * line_total m) m bytes fits.state; lines = fits.lines }
+aged_lines m each fits =
+    record { state = aged_keeps (λ r. r.state ≤ 1 + 2 * line_total m) m each fits.state; lines = fits.lines }

@@ -1,4 +1,3 @@
-pub mod Best
 pub mod Claiming
 pub mod First
 pub mod Marks

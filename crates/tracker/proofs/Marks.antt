@@ -1,5 +1,6 @@
 -- Laws of the marks: no mark is right before the first record, each record marks half its state, which is the place of its line or
--- place 0, and once every record is passed the lowest unmarked line is the lowest unused one. Assumes nothing.
+-- place 0, once every record is passed the lowest unmarked line is the lowest unused one, and the first mark that is 0 is its mark.
+-- Assumes nothing.
 use Prim.Native.Nat.{ℕ, zero, suc, ◌+◌, ◌-◌, ◌/◌, ◌<◌}
 use mathlib.Core.Path.{◌≡◌, refl, sym}
 use mathlib.Core.Bool.{Bool, true, false, not}
@@ -13,8 +14,13 @@ use lib.ListN.{length, get_or, set, replicate, length-set}
 use lib.Seq.{get_or-set_same, get_or-set_other}
 use Rattle.rules.specs.declared.Record.{Record}
 use Rattle.std.specs.Prelude.{if◌then◌else◌}
+use Rattle.std.specs.List.{slice_range, position_or_len, position}
+use Rattle.std.proofs.lemmas.List.Sums.{position_or_len_is}
+use Rattle.std.proofs.lemmas.Grind.{common_steps}
 use Rattle.rules.specs.Pass.{pass, any_of, lowest_not}
+use Rattle.rules.proofs.Searches.{lowest_within, lowest_fails, lowest_before}
 use Rattle.rules.specs.Table.{is_lined, line_of, is_on, is_used, lowest_unused}
+use Rattle.tracker.specs.Claiming.{below}
 use Rattle.tracker.specs.Marks.{Unmarked, Marks, is_marked, lowest_unmarked}
 
 pub zeros_unmarked : (n : ℕ) → Unmarked (replicate n 0)
@@ -69,3 +75,22 @@ module _ (f : ℕ → Record) (n : ℕ) (used : List ℕ) (marks : Marks f n use
   lowest_unmarked_unused zero all = refl
   lowest_unmarked_unused (suc line) all =
       rw (lowest_unmarked_unused line (omega arith), mark_tells line (omega arith))
+
+-- the first 0 among the marks of so many lines is that of the lowest unmarked one
+module _ (used : List ℕ) (lines : ℕ) (inside : lines < length used) where
+  marks_length : length (slice_range used 1 (lines + 1)) ≡ lines
+  marks_length = grind (arith, common_steps)
+
+  first_clear : position_or_len (λ mark. eqb mark 0) (slice_range used 1 (lines + 1)) ≡ lowest_unmarked used lines
+  unfolding lowest_unmarked is_marked
+  first_clear =
+      let marks = slice_range used 1 (lines + 1) in
+      let mark_of : (k : ℕ) → k < lines → get_or marks k 0 ≡ get_or used (k + 1) 0 = λ k below. grind (arith, common_steps) in
+      let size = marks_length in
+      let within = lowest_within (is_marked used) lines in
+      position_or_len_is (λ mark. eqb mark 0) marks (lowest_unmarked used lines) 0 (omega arith)
+      (λ k before. let h = lowest_before (is_marked used) lines k before in let e = mark_of k (omega arith) in grind arith)
+      (λ below. let h = lowest_fails (is_marked used) lines (omega arith) in let e = mark_of (lowest_unmarked used lines) (omega arith) in grind arith)
+
+  pub clear_is_unmarked : position (λ mark. eqb mark 0) (slice_range used 1 (lines + 1)) ≡ below lines (lowest_unmarked used lines)
+  clear_is_unmarked = rw (first_clear, marks_length)

@@ -10,7 +10,7 @@ use borrow.Author.Tests.{eq-eqb, ne_eqb}
 use Rattle.rules.specs.declared.Record.{Record}
 use Rattle.rules.specs.Pass.{pass, best, best_of}
 use Rattle.rules.specs.Table.{is_free, is_unlined, free_record, colder, victim}
-use Rattle.tracker.specs.Replacing.{NoneYet, ColdestYet, serves}
+use Rattle.tracker.specs.Replacing.{NoneYet, IsFirstUnlined, ColdestYet, serves}
 use Rattle.tracker.proofs.First.{not_here}
 
 neither : (a b : Bool) → (a || b) ≡ false → (a ≡ false) × (b ≡ false)
@@ -29,12 +29,13 @@ module _ (f : ℕ → Record) (i : ℕ) (r : Record) (read : r ≡ f i) where
         none_held = rw (add-one, none.none_held, ← read, ne_eqb r.state 1 (omega arith));
       }
 
-  pub first_held : NoneYet f i → r.state ≡ 1 → ColdestYet f (i + 1) i
+  pub first_held : (n : ℕ) → IsFirstUnlined f n i → r.state ≢ 0 → ColdestYet f (i + 1) i
   unfolding free_record is_free victim best_of pass best is_unlined
-  first_held none waits =
+  first_held n first taken =
+      let here = rw (← read) at first.here in
       record {
-        none_free = not_here is_free f i r none.none_free read (ne_eqb r.state 0 (omega arith));
-        holds = rw (add-one, none.none_held, ← read, eq-eqb r.state 1 waits);
+        none_free = not_here is_free f i r first.before.none_free read (ne_eqb r.state 0 taken);
+        holds = rw (add-one, first.before.none_held, ← read, eq-eqb r.state 1 (omega arith));
       }
 
   module _ (held least : ℕ) (so_far : ColdestYet f i held) (same : least ≡ (f held).heat) where

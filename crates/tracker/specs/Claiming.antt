@@ -1,8 +1,7 @@
 -- The search for a line: what is known of the coldest record on a line among the first i records, and what is found.
-use Rattle.std.specs.Prelude.{ℕ, ◌*◌, ◌≤◌, ◌<◌, ◌≡◌, if◌then◌else◌}
+use Rattle.std.specs.Prelude.{ℕ, ◌*◌, ◌≤◌, ◌<◌, ◌≡◌, ltb, if◌then◌else◌, Option, Some, None}
 use Rattle.rules.specs.declared.Record.{Record}
-use Rattle.rules.specs.declared.Found.{Found}
-use Rattle.rules.specs.declared.Found.TheVariants.{Nowhere, At}
+use Rattle.rules.specs.Pass.{Found}
 use Rattle.rules.specs.Table.{is_lined, coldest_lined, lowest_unused}
 
 -- more than any heat
@@ -17,19 +16,24 @@ pub record ClaimFits (f : ℕ → Record) (n size : ℕ) : Type 0 where
 unfoldable pub lined_heat : Record → ℕ
 lined_heat r = if is_lined r then r.heat else largest
 
--- a place below n is the coldest's, and any other says that there is none
-pub record ColdestIs (f : ℕ → Record) (n place : ℕ) : Type 0 where
-  pub found : place < n → coldest_lined f n ≡ At place (f place)
-  pub missing : n ≤ place → coldest_lined f n ≡ Nowhere
+unfoldable pub heat_of : Found → ℕ
+heat_of None = largest
+heat_of (Some (i, r)) = r.heat
 
--- after i records: a place below n is the coldest's and least its heat, with any other least is the largest number, and no held record
--- is colder than least
+-- the record at a place, if that is below n
+abbrev pub held_at : (ℕ → Record) → ℕ → ℕ → Found
+held_at f n place = if ltb place n then Some (place, f place) else None
+
+-- after i records: the one held at the place is the coldest, and least its heat, or the largest number where none is held
 pub record Coldest (f : ℕ → Record) (n i place least : ℕ) : Type 0 where
-  pub holds : place < n → coldest_lined f i ≡ At place (f place)
-  pub heat : place < n → least ≡ (f place).heat
-  pub none : n ≤ place → least ≡ largest
-  pub bound : (j : ℕ) (s : Record) → coldest_lined f i ≡ At j s → least ≤ s.heat
+  pub holds : held_at f n place ≡ coldest_lined f i
+  pub heat : least ≡ heat_of (held_at f n place)
+  pub most : least ≤ largest
 
-pub record IsClaim (f : ℕ → Record) (n lines line : ℕ) (coldest : Found) : Type 0 where
-  pub line_is : line ≡ lowest_unused f n lines
+-- a number, if it is below most
+abbrev pub below : ℕ → ℕ → Option ℕ
+below most n = if ltb n most then Some n else None
+
+pub record IsClaim (f : ℕ → Record) (n lines : ℕ) (line : Option ℕ) (coldest : Found) : Type 0 where
+  pub line_is : line ≡ below lines (lowest_unused f n lines)
   pub coldest_is : coldest ≡ coldest_lined f n

@@ -1,5 +1,5 @@
 -- The line that was looked up lies inside the lines, and its record inside the table. Assumes nothing.
-use Rattle.std.proofs.Common.{sym, length-take, length-drop, rules, arith}
+use Rattle.std.proofs.Common.{sym, rules, arith}
 use Rattle.rules.specs.Table.{places, size}
 use Rattle.cache.proofs.Lined.{lined_at}
 use Rattle.cache.proofs.fill_steps.Goals as goal
@@ -9,21 +9,20 @@ unfolding places size
 overflow_mul-line c =
     let h = lined_at _ c.args.key _ _ _ _ c.requires.1 (sym c.in-Lined.ensures.value) in omega arith
 
-pub slice_bounds-copy_picture-count : goal.slice_bounds-copy_picture-count
+pub overflow_mul-line-2 : goal.overflow_mul-line-2
 unfolding places size
-slice_bounds-copy_picture-count c =
+overflow_mul-line-2 c =
     let h = lined_at _ c.args.key _ _ _ _ c.requires.1 (sym c.in-Lined.ensures.value) in omega arith
 
-pub slice_bounds-copy_picture-start : goal.slice_bounds-copy_picture-start
+pub overflow_add-line : goal.overflow_add-line
 unfolding places size
-slice_bounds-copy_picture-start c =
-    let h = lined_at _ c.args.key _ _ _ _ c.requires.1 (sym c.in-Lined.ensures.value) in search rules
+overflow_add-line c =
+    let h = lined_at _ c.args.key _ _ _ _ c.requires.1 (sym c.in-Lined.ensures.value) in omega arith
 
-pub copy_picture-requires : goal.copy_picture-requires
+pub slice_bounds-copy_from_slice-end : goal.slice_bounds-copy_from_slice-end
 unfolding places size
-copy_picture-requires c =
-    let h = lined_at _ c.args.key _ _ _ _ c.requires.1 (sym c.in-Lined.ensures.value) in
-    simp (length-take, length-drop) (omega arith)
+slice_bounds-copy_from_slice-end c =
+    let h = lined_at _ c.args.key _ _ _ _ c.requires.1 (sym c.in-Lined.ensures.value) in search rules
 
 pub record_at-r-requires : goal.record_at-r-requires
 unfolding places size

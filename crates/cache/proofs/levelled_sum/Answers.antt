@@ -2,10 +2,8 @@
 use Rattle.std.proofs.Common.{sym, arith}
 use Rattle.rules.specs.Bytes.{record_count}
 use Rattle.rules.specs.Table.{places, size}
-use Rattle.rules.specs.Steps.{levelled_sum}
-use Rattle.rules.specs.Calls.{unless, levelled_outcome, lent}
+use Rattle.rules.specs.Calls.{lent}
 use Rattle.rules.proofs.Memories.{sizes_say}
-use Rattle.rules.proofs.Numbers.{levelled_said_lem}
 use Rattle.rules.proofs.Verdicts.{plain_accepted}
 use Rattle.steps.proofs.Rooms.{order_fits}
 use Rattle.cache.proofs.levelled_sum.Goals as goal
@@ -14,15 +12,7 @@ pub sum_levels-requires : goal.sum_levels-requires
 unfolding record_count places size
 sum_levels-requires c =
     let m = lent c.args.table.now c.args.gauge c.args.lines.now in
-    let good = plain_accepted m (sym c.in-Accepted.ensures) in
+    let good = plain_accepted m (sym (rw c.view.ensures at c.in_ok-plain_verdict.ensures)) in
     let sizes = sizes_say m.table m.lines good.sizes in
     let room = (order_fits m good.sizes good.order).1 in
     (omega arith, omega arith, record { ceiling_most = room.ceiling; heat_most = room.heat })
-
-pub returns-in-Refused-clause-result_value : goal.returns-in-Refused-clause-result_value
-unfolding levelled_outcome unless
-returns-in-Refused-clause-result_value c = rw (← levelled_said_lem _, ← c.in-Refused.ensures)
-
-pub returns-in-Accepted-clause-result_value : goal.returns-in-Accepted-clause-result_value
-unfolding levelled_outcome levelled_sum unless places size record_count
-returns-in-Accepted-clause-result_value c = rw (← levelled_said_lem _, ← c.in-Accepted.ensures, c.sum_levels.ensures.0)

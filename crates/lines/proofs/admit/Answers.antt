@@ -8,6 +8,6 @@ use Rattle.lines.proofs.admit.Goals as goal
 pub hand_over-requires : goal.hand_over-requires
 unfolding is_lined line_of places size line_total
 hand_over-requires c =
-    let found = coldest_found _ _ _ _ (sym c.claimable-claim.ensures.coldest_is ∙ c.in-At.is) in
+    let found = coldest_found _ _ _ _ (sym c.claimable-claim.ensures.coldest_is ∙ c.in-Some-coldest.is) in
     let (inside, fits, _, serial) = c.requires in
     (found.inside, inside, lt-ltb _ _ found.has.0, omega (arith, fits.state _ found.inside, fits.lines), serial)

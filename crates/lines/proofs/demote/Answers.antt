@@ -7,6 +7,6 @@ use Rattle.lines.proofs.demote.Goals as goal
 pub hand_over-requires : goal.hand_over-requires
 unfolding line_of places size line_total
 hand_over-requires c =
-    let found = hottest_found _ _ _ _ (sym c.hottest_unlined-hottest.ensures ∙ c.in-At.is) in
+    let found = hottest_found _ _ _ _ (sym c.hottest_unlined.ensures ∙ c.in-Some.is) in
     let (inside, fits, serial) = c.requires in
     (inside, found.inside, rw (← c.record_at-r.ensures) (sym c.if-not-is_lined.ensures), omega (arith, fits.state _ inside, fits.lines), serial)

@@ -34,7 +34,6 @@ module _ (journal : List ℕ) {start : Run} {out₀ out : List ℕ} {p : Progres
 pub loop-i-init : goal.loop-i-init
 unfolding run_for printed_all
 loop-i-init c = (
-  omega arith,
   record { memory = refl; at = refl; numbered = refl; within = omega arith; rows = record { ends = refl; holds = sym (written_none _ 0) } },
   λ k below. absurd (omega arith),
 )
@@ -43,8 +42,8 @@ pub returns-then-not-has_room : goal.returns-then-not-has_room
 unfolding entry_count
 returns-then-not-has_room c =
     stops c.args.journal.now (omega arith)
-    (says_fits c.has_room.ensures c.loop-i.auto.out c.loop-i.invariant.1 ∙ c.if-not-has_room.true) c.loop-i.invariant.2 c.loop-i.invariant.1
+    (says_fits c.has_room.ensures c.loop-i.auto.out c.loop-i.invariant.0 ∙ c.if-not-has_room.true) c.loop-i.invariant.1 c.loop-i.invariant.0
 
 pub returns : goal.returns
 unfolding entry_count
-returns c = ends c.args.journal.now (omega arith) c.loop-i.invariant.2 c.loop-i.invariant.1
+returns c = ends c.args.journal.now (omega arith) c.loop-i.invariant.1 c.loop-i.invariant.0

@@ -1,4 +1,4 @@
-use Rattle.std.proofs.Common.{◌≡◌, ℕ, ◌-◌, ◌≤◌, ◌<◌, Bool, true, length}
+use Rattle.std.proofs.Common.{◌≡◌, ℕ, ◌<◌, Bool, true, length}
 use Rattle.rules.specs.Calls.{lent}
 use Rattle.rules.specs.Journal.{Run, run_for, printed_all, going_on}
 use Rattle.runner.specs.Progress.{Runs, room_for}
@@ -11,9 +11,5 @@ next_fits most run = room_for most (length (printed_all run.rows)) run.numbered
 abbrev pub invariant-loop-i : goal.invariant-loop-i
 invariant-loop-i l =
     let start = going_on (lent l.initial.table l.fn.gauge l.initial.lines) l.numbered in
-    (l.i ≤ l.n)
-    × Runs (run_for l.journal start l.i) l.initial.out l.p (lent l.table l.p.gauge l.lines) l.out
+    Runs (run_for l.journal start l.i) l.initial.out l.progress (lent l.table l.progress.gauge l.lines) l.out
     × ((k : ℕ) → k < l.i → next_fits (length l.initial.out) (run_for l.journal start k) ≡ true)
-
-abbrev pub decreases-loop-i : goal.decreases-loop-i
-decreases-loop-i l = l.n - l.i

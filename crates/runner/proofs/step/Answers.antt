@@ -1,14 +1,15 @@
-use Rattle.std.proofs.Common.{refl, sym}
-use Rattle.rules.specs.Calls.{left}
+use Rattle.std.proofs.Common.{refl}
+use Rattle.rules.specs.Calls.{lent}
+use Rattle.rules.specs.Steps.{outcome}
 use Rattle.rules.specs.Journal.{row_of}
 use Rattle.runner.proofs.Stepping.{picture_inside, ended, carried_on}
 use Rattle.runner.proofs.step.Goals as goal
 
-pub returns-then-is_end : goal.returns-then-is_end
-returns-then-is_end c = ended _ _ _ _ (rw (← c.read_at-d.ensures.0) (sym c.if-is_end.ensures))
+pub returns-in_default : goal.returns-in_default
+returns-in_default c = ended _ _ _ _ (rw (← c.decode-d.ensures.0) c.in_default.is)
 
 pub perform-reply-requires : goal.perform-reply-requires
-perform-reply-requires c = rw c.read_at-d.ensures.0 (picture_inside _ _)
+perform-reply-requires c = picture_inside c.args.journal.now c.args.p.now.at c.in-Some.entry (rw (← c.decode-d.ensures.0) c.in-Some.is)
 
 pub returns : goal.returns
 unfolding row_of
@@ -16,15 +17,16 @@ returns c =
     let did = c.perform-reply in
     carried_on
     c.args.journal.now
-    c.args.p
+    c.args.p.now
     _
     c.args.out.now
     _
     _
-    (left did.result did.new.table did.new.lines)
-    (rw (← c.read_at-d.ensures.0) (sym c.if-is_end.ensures))
-    (rw (← c.read_at-d.ensures.0) did.ensures)
-    (rw (← c.read_at-d.ensures.0))
+    (outcome did.result (lent did.new.table did.new.gauge did.new.lines))
+    _
+    (rw (← c.decode-d.ensures.0) c.in-Some.is)
+    did.ensures
+    (rw (← c.decode-d.ensures.0))
     refl
-    c.put_row-after.ensures
+    c.put_row-p.ensures
     c.requires.0

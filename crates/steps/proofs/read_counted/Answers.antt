@@ -10,16 +10,16 @@ use Rattle.steps.proofs.read_counted.Goals as goal
 pub heated-requires : goal.heated-requires
 unfolding places size
 heated-requires c =
-    let found = key_found _ _ _ _ _ (sym c.key_record-found.ensures ∙ c.in-At.is) in
+    let found = key_found _ _ _ _ _ (sym c.key_record.ensures ∙ c.in-Some.is) in
     (omega (arith, c.requires.0), rw found.is (c.requires.1.heat _ found.inside))
 
 pub put_record-requires : goal.put_record-requires
-put_record-requires c = (key_found _ _ _ _ _ (sym c.key_record-found.ensures ∙ c.in-At.is)).inside
+put_record-requires c = (key_found _ _ _ _ _ (sym c.key_record.ensures ∙ c.in-Some.is)).inside
 
 pub admission-requires : goal.admission-requires
 unfolding record_count heated places size write with_table
 admission-requires c =
-    let found = key_found _ _ _ _ _ (sym c.key_record-found.ensures ∙ c.in-At.is) in
+    let found = key_found _ _ _ _ _ (sym c.key_record.ensures ∙ c.in-Some.is) in
     let is : IsRecord c.heated.result = omega (arith, c.heated.type_inv) in
     let (weight, heats, lines, serial) = c.requires in (
       omega arith,

@@ -5,16 +5,16 @@ use Rattle.rules.proofs.Finds.{free_found}
 use Rattle.steps.proofs.Rooms.{track_fits, serial_track}
 use Rattle.steps.proofs.read_untracked.Goals as goal
 
-pub track-after-requires : goal.track-after-requires
-track-after-requires c =
-    let found = free_found _ _ _ _ (sym c.replaceable-found.ensures.free_is ∙ c.in-At.is) in
+pub track-requires : goal.track-requires
+track-requires c =
+    let found = free_found _ _ _ _ (sym c.replaceable-found.ensures.free_is ∙ c.in-Some.is) in
     (found.inside, c.requires.0, c.requires.1.ceiling)
 
 pub admission-requires : goal.admission-requires
 unfolding record_count size
 admission-requires c =
-    let found = free_found _ _ _ _ (sym c.replaceable-found.ensures.free_is ∙ c.in-At.is) in
+    let found = free_found _ _ _ _ (sym c.replaceable-found.ensures.free_is ∙ c.in-Some.is) in
     let (weight, heats, lines, serial) = c.requires in
-    let is = c.track-after.ensures in
+    let is = c.track.ensures.memory in
     let fits = track_fits _ c.args.key _ _ lines heats found.inside (omega arith) weight in
-    (omega arith, rw is fits.0, rw is fits.1, serial_track _ _ _ _ _ is serial)
+    (omega (arith, c.track.ensures.same_lent.1), rw is fits.0, rw is fits.1, serial_track _ _ _ _ _ is serial)

@@ -12,7 +12,7 @@ use Rattle.steps.proofs.Rooms.{lines_write}
 use Rattle.steps.proofs.update_steps.Goals as goal
 
 pub put_record-requires : goal.put_record-requires
-put_record-requires c = (key_found _ _ _ _ _ (sym c.key_record-tracked.ensures ∙ c.in-At.is)).inside
+put_record-requires c = (key_found _ _ _ _ _ (sym c.key_record.ensures ∙ c.in-Some.is)).inside
 
 emptied_most : (r : Record) (n : ℕ) → r.state ≤ 1 + 2 * n → (emptied r).state ≤ 1 + 2 * n
 unfolding emptied is_lined empty_state line_of
@@ -22,10 +22,10 @@ emptied_most r n most = go (ltb 1 r.state) refl
     go true e = omega (arith, ltb-true 1 r.state e)
     go false e = most
 
-pub demote-after-requires : goal.demote-after-requires
+pub demote-requires : goal.demote-requires
 unfolding record_count cooled places size write with_table
-demote-after-requires c =
-    let found = key_found _ _ _ _ _ (sym c.key_record-tracked.ensures ∙ c.in-At.is) in
+demote-requires c =
+    let found = key_found _ _ _ _ _ (sym c.key_record.ensures ∙ c.in-Some.is) in
     let is : IsRecord c.emptied.result = omega (arith, c.emptied.type_inv) in
     let (fits, serial) = c.requires in
     let most = rw (← found.is) at (fits.state _ found.inside) in (

@@ -1,17 +1,13 @@
-use Rattle.std.proofs.Common.{sym, arith, eq-eqb, ne_eqb, below_more}
-use Rattle.tracker.specs.Marks.{is_marked, lowest_unmarked}
-use Rattle.rules.proofs.Searches.{lowest_found, lowest_none}
+use Rattle.std.proofs.Common.{rules, eqb, ◌+◌, ◌∙◌}
+use Rattle.std.specs.List.{slice_range}
+use Rattle.std.proofs.lemmas.Iterator.{YieldsList-from_slice}
+use Rattle.std.proofs.lemmas.Iterator.Search.{position_from_yields_List}
+use borrow.Author.Tests.{tests}
+use Rattle.tracker.proofs.Marks.{clear_is_unmarked}
 use Rattle.tracker.proofs.lowest_unmarked.Goals as goal
 
-pub returns-then-used-i-eq0 : goal.returns-then-used-i-eq0
-unfolding lowest_unmarked is_marked
-returns-then-used-i-eq0 c =
-    sym (lowest_found (is_marked _) _ _ c.loop-i-test.true (rw (eq-eqb _ 0 c.if-used-i-eq0.true)) c.loop-i.invariant.1)
-
-pub loop-i-preserved : goal.loop-i-preserved
-unfolding is_marked
-loop-i-preserved c = (omega arith, below_more _ _ c.loop-i.invariant.1 (rw (ne_eqb _ 0 c.if-used-i-eq0.false)))
-
 pub returns : goal.returns
-unfolding lowest_unmarked
-returns c = sym (lowest_none (is_marked _) _ (λ line below. c.loop-i.invariant.1 line (omega arith)))
+returns c =
+    position_from_yields_List (λ mark. eqb mark 0) _ _ c.position.result c.position.ensures.ran
+    (YieldsList-from_slice (slice_range c.args.used.now 1 (c.args.lines + 1)) cc) (λ x b q k. search (rules, tests))
+    ∙ clear_is_unmarked _ _ c.requires

@@ -1,15 +1,7 @@
-use Rattle.std.proofs.Common.{◌-◌, ◌≤◌}
 use Rattle.rules.specs.Bytes.{record_at}
-use Rattle.tracker.specs.Claiming.{largest, Coldest}
+use Rattle.tracker.specs.Claiming.{Coldest}
 use Rattle.tracker.specs.Marks.{Marks}
 use Rattle.tracker.proofs.mark_lines.Given as goal
 
 abbrev pub invariant-loop-i : goal.invariant-loop-i
-invariant-loop-i l =
-    (l.i ≤ l.n)
-    × (l.least ≤ largest)
-    × Marks (record_at l.table) l.i l.used
-    × Coldest (record_at l.table) l.n l.i l.best l.least
-
-abbrev pub decreases-loop-i : goal.decreases-loop-i
-decreases-loop-i l = l.n - l.i
+invariant-loop-i l = Marks (record_at l.table) l.i l.used × Coldest (record_at l.table) l.n l.i l.best l.least
