@@ -64,16 +64,16 @@ pub fn read(
     ensures said { answer_said result ≡ read_said (lent table.old gauge.old lines.now) key weight }
     ensures answer_bound { number_of result < 2 ^ 64 }
 {
-    let before = *gauge;
-    read_verdict(view(table, before, lines), weight)?;
-    let mut counted = Hub {
-        table,
-        gauge: before,
-        lines,
-    };
-    let answer = read_steps(&mut counted, key, weight);
-    *gauge = counted.gauge;
-    Ok(answer)
+    read_verdict(view(table, *gauge, lines), weight)?;
+    Ok(read_steps(
+        &mut Hub {
+            table,
+            gauge,
+            lines,
+        },
+        key,
+        weight,
+    ))
 }
 
 // Cools a class whose picture has changed, and empties its line.
@@ -89,16 +89,16 @@ pub fn update(
     ensures said { number_of result ≡ update_number (lent table.old gauge.old lines.now) key weight }
     ensures answer_bound { number_of result < 2 ^ 64 }
 {
-    let before = *gauge;
-    update_verdict(view(table, before, lines), weight)?;
-    let mut cooled = Hub {
-        table,
-        gauge: before,
-        lines,
-    };
-    let answer = update_steps(&mut cooled, key, weight);
-    *gauge = cooled.gauge;
-    Ok(answer)
+    update_verdict(view(table, *gauge, lines), weight)?;
+    Ok(update_steps(
+        &mut Hub {
+            table,
+            gauge,
+            lines,
+        },
+        key,
+        weight,
+    ))
 }
 
 // Halves every heat, total and ceiling downward and every slack upward.
@@ -108,15 +108,12 @@ pub fn age(table: &mut [u8], gauge: &mut Gauge, lines: &[u8]) -> Result<Answer, 
     ensures said { number_of result ≡ age_number (lent table.old gauge.old lines.now) }
     ensures answer_bound { number_of result < 2 ^ 64 }
 {
-    let before = *gauge;
-    plain_verdict(view(table, before, lines))?;
-    let mut aged = Hub {
+    plain_verdict(view(table, *gauge, lines))?;
+    age_all(&mut Hub {
         table,
-        gauge: before,
+        gauge,
         lines,
-    };
-    age_all(&mut aged);
-    *gauge = aged.gauge;
+    });
     Ok(Answer::Aged)
 }
 

@@ -78,10 +78,7 @@ fn put_ticket(bytes: &mut [u8], reply: Result<Answer, Refusal>)
 fn completion_number(completion: Result<(), Refusal>) -> u64
     ensures { result ≡ completion_number completion }
 {
-    match completion {
-        Ok(()) => DONE,
-        Err(cause) => u64::from(cause),
-    }
+    completion.map_or_else(u64::from, |()| DONE)
 }
 
 // Makes a call of the cache on a host's memory: refuses a gauge of another size, and puts the gauge back as the call leaves it.

@@ -20,7 +20,7 @@ use tracker::{claimable, hottest_unlined};
 // The next ticket, which the gauge has given from now on.
 #[tactic(auto, unfolding(rules::specs::Steps::ticketed, rules::specs::Steps::next_ticket, rules::specs::Table::with_gauge))]
 fn take_ticket(hub: &mut Hub) -> u64
-    requires { hub.old.gauge.serial < serial_limit }
+    requires { hub.old.gauge.now.serial < serial_limit }
     ensures same_lent { SameLent hub.old hub.new }
     ensures memory { memory hub.new ≡ ticketed (memory hub.old) }
     ensures ticket { result ≡ next_ticket (memory hub.old) }
@@ -32,7 +32,7 @@ fn take_ticket(hub: &mut Hub) -> u64
 // The record at place i keeps its line, and gets a new ticket.
 #[tactic(auto, unfolding(rules::specs::Steps::renew, rules::specs::Steps::ticketed, rules::specs::Table::write, rules::specs::Table::with_table, rules::specs::Table::with_gauge, rules::specs::Table::places))]
 fn renew(hub: &mut Hub, i: usize)
-    requires { (i < record_count hub.old.table.now) × (hub.old.gauge.serial < serial_limit) }
+    requires { (i < record_count hub.old.table.now) × (hub.old.gauge.now.serial < serial_limit) }
     ensures same_lent { SameLent hub.old hub.new }
     ensures memory { memory hub.new ≡ renew (memory hub.old) i }
 {
@@ -45,7 +45,7 @@ fn renew(hub: &mut Hub, i: usize)
 // The record at place i takes a line, empty, with a new ticket.
 #[tactic(auto, unfolding(rules::specs::Table::empty_state, rules::specs::Steps::give_line, rules::specs::Steps::ticketed, rules::specs::Table::write, rules::specs::Table::with_table, rules::specs::Table::with_gauge, rules::specs::Table::places))]
 fn give_line(hub: &mut Hub, i: usize, line: usize)
-    requires { (i < record_count hub.old.table.now) × (line < most_records) × (hub.old.gauge.serial < serial_limit) }
+    requires { (i < record_count hub.old.table.now) × (line < most_records) × (hub.old.gauge.now.serial < serial_limit) }
     ensures same_lent { SameLent hub.old hub.new }
     ensures memory { memory hub.new ≡ give_line (memory hub.old) i line }
 {
@@ -58,7 +58,7 @@ fn give_line(hub: &mut Hub, i: usize, line: usize)
 // A record gives its line to another.
 #[tactic(auto, unfolding(rules::specs::Bytes::record_count, rules::specs::Steps::hand_over, rules::specs::Table::write, rules::specs::Table::with_table, rules::specs::Table::places))]
 fn hand_over(hub: &mut Hub, from: usize, to: usize)
-    requires { (from < record_count hub.old.table.now) × (to < record_count hub.old.table.now) × (is_lined (record_at hub.old.table.now from) ≡ true) × (line_of (record_at hub.old.table.now from) < most_records) × (hub.old.gauge.serial < serial_limit) }
+    requires { (from < record_count hub.old.table.now) × (to < record_count hub.old.table.now) × (is_lined (record_at hub.old.table.now from) ≡ true) × (line_of (record_at hub.old.table.now from) < most_records) × (hub.old.gauge.now.serial < serial_limit) }
     ensures same_lent { SameLent hub.old hub.new }
     ensures memory { memory hub.new ≡ hand_over (memory hub.old) from to }
 {
@@ -72,7 +72,7 @@ fn hand_over(hub: &mut Hub, from: usize, to: usize)
 // Step 5: the record at place i gets a line if one is unused, or if it is hotter than the coldest on a line.
 #[tactic(auto, unfolding(rules::specs::Steps::admit, rules::specs::Table::places, rules::specs::Table::size, rules::specs::Table::line_total, rules::specs::Bytes::line_count, rules::specs::Steps::promote, rules::specs::Steps::replace_coldest, rules::specs::Table::is_lined, rules::specs::Table::line_of, rules::specs::Table::hotter))]
 pub fn admit(hub: &mut Hub, i: usize)
-    requires { (i < record_count hub.old.table.now) × LinesFit (memory hub.old) × HeatsBelow (memory hub.old) × (hub.old.gauge.serial < serial_limit) }
+    requires { (i < record_count hub.old.table.now) × LinesFit (memory hub.old) × HeatsBelow (memory hub.old) × (hub.old.gauge.now.serial < serial_limit) }
     ensures same_lent { SameLent hub.old hub.new }
     ensures memory { memory hub.new ≡ admit (memory hub.old) i }
 {
@@ -96,7 +96,7 @@ pub fn admit(hub: &mut Hub, i: usize)
 // The record at place i keeps its line unless the hottest record without one is hotter.
 #[tactic(auto, unfolding(rules::specs::Steps::demote, rules::specs::Table::places, rules::specs::Table::size, rules::specs::Steps::demote_for, rules::specs::Table::line_of, rules::specs::Table::line_total, rules::specs::Table::hotter))]
 pub fn demote(hub: &mut Hub, i: usize)
-    requires { (i < record_count hub.old.table.now) × LinesFit (memory hub.old) × (hub.old.gauge.serial < serial_limit) }
+    requires { (i < record_count hub.old.table.now) × LinesFit (memory hub.old) × (hub.old.gauge.now.serial < serial_limit) }
     ensures same_lent { SameLent hub.old hub.new }
     ensures memory { memory hub.new ≡ demote (memory hub.old) i }
 {

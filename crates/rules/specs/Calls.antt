@@ -145,12 +145,13 @@ abbrev pub seen : View → Memory
 seen v = lent v.table.now v.gauge v.lines.now
 
 abbrev pub memory : Hub → Memory
-memory h = lent h.table.now h.gauge h.lines.now
+memory h = lent h.table.now h.gauge.now h.lines.now
 
--- a hub still holds what it was lent: the table in its place, as long as it was, and the lines as they were
+-- a hub still holds what it was lent: the table in its place, as long as it was, the gauge in its place, and the lines as they were
 abbrev pub SameLent : Hub → Hub → Type 0
 SameLent was is =
-    (is.table.ghost_name ≡ was.table.ghost_name) × (length is.table.now ≡ length was.table.now) × (is.lines ≡ was.lines)
+    (is.table.ghost_name ≡ was.table.ghost_name) × (length is.table.now ≡ length was.table.now)
+    × (is.gauge.ghost_name ≡ was.gauge.ghost_name) × (is.lines ≡ was.lines)
 
 -- ---- a call by a C host
 -- | The hub's host program is in C; it calls through exported functions and lends the gauge as [24] bytes

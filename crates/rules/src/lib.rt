@@ -63,7 +63,7 @@ pub struct Gauge {
     pub serial: u64,
 }
 
-// A key, looked up.
+// A key, looked up. (No Option of a line: a class without a record and one without a line are told apart.)
 #[derive(Clone, Copy, Debug, PartialEq, Eq)]
 pub enum Lookup {
     // No record.
@@ -128,10 +128,10 @@ pub struct View<'a> {
     pub lines: &'a [u8],
 }
 
-// To change: the table where it lies, the gauge as it has become so far. The lines' bytes stay.
+// To change: table and gauge where they lie. The lines' bytes stay.
 #[derive(Drop)]
 pub struct Hub<'a> {
     pub table: &'a mut [u8],
-    pub gauge: Gauge,
+    pub gauge: &'a mut Gauge,
     pub lines: &'a [u8],
 }

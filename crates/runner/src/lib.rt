@@ -49,7 +49,7 @@ pub struct Progress {
     pub numbered: u64,
 }
 
-// One record: it is done, and its row is written.
+// One record: it is done, and its row is written. (It is decoded at its place, and not by a reader, which would hold the place again.)
 #[tactic(auto, unfolding(rules::specs::Journal::row_of))]
 fn step(table: &mut [u8], lines: &mut [u8], journal: &[u8], out: &mut [u8], p: &mut Progress)
     requires { (p.old.end + row_size ≤ length out.old) × (p.old.numbered + 1 < 2 ^ 64) }

@@ -1,7 +1,7 @@
 // What an accepted aging, read or update does.
 #![tactic(auto)]
 
-ghost use Rattle.std.specs.Prelude.{◌≡◌, ◌≤◌, ◌<◌, ◌^◌, None, Ok};
+ghost use Rattle.std.specs.Prelude.{◌≡◌, ◌≤◌, ◌<◌, ◌^◌, Some, None, Ok};
 ghost use Rattle.rules.specs.Bytes.{record_at, record_count};
 ghost use Rattle.rules.specs.Table.{most_total, aged_record, key_record, free_record, victim, change_all};
 ghost use Rattle.rules.specs.Calls.{most_weight, serial_limit, memory, SameLent};
@@ -14,7 +14,7 @@ use fields::{aged_record, cooled, emptied, heated, new_record, read_answer};
 use lines::{admit, demote};
 use records::{RECORD_SIZE, put_record, record_at};
 use rules::{Answer, Hub, MOST_TOTAL, Record};
-use tracker::{key_record, replaceable};
+use tracker::{Replacement, key_record, replaceable};
 
 // ---- Age
 
@@ -45,7 +45,7 @@ pub fn age_all(hub: &mut Hub)
 
 #[tactic(auto, unfolding(rules::specs::Steps::decay_for))]
 fn decay_for(hub: &mut Hub, weight: u64)
-    requires { (hub.old.gauge.total ≤ most_total) × (weight ≤ most_weight) × HeatsFit (memory hub.old) × LinesFit (memory hub.old) }
+    requires { (hub.old.gauge.now.total ≤ most_total) × (weight ≤ most_weight) × HeatsFit (memory hub.old) × LinesFit (memory hub.old) }
     ensures same_lent { SameLent hub.old hub.new }
     ensures memory { memory hub.new ≡ decay_for weight (memory hub.old) }
     ensures room { HeatsFit (memory hub.new) × LinesFit (memory hub.new) }
@@ -58,7 +58,7 @@ fn decay_for(hub: &mut Hub, weight: u64)
 // Steps 5 and 6.
 #[tactic(auto, unfolding(rules::specs::Bytes::record_count, rules::specs::Steps::admission, rules::specs::Table::places))]
 fn admission(hub: &mut Hub, i: usize) -> Answer
-    requires { (i < record_count hub.old.table.now) × LinesFit (memory hub.old) × HeatsBelow (memory hub.old) × (hub.old.gauge.serial < serial_limit) }
+    requires { (i < record_count hub.old.table.now) × LinesFit (memory hub.old) × HeatsBelow (memory hub.old) × (hub.old.gauge.now.serial < serial_limit) }
     ensures same_lent { SameLent hub.old hub.new }
     ensures outcome { outcome (Ok result) (memory hub.new) ≡ admission i (memory hub.old) }
     ensures answer_bound { answer_number result < 2 ^ 64 }
@@ -70,7 +70,7 @@ fn admission(hub: &mut Hub, i: usize) -> Answer
 
 #[tactic(auto, unfolding(rules::specs::Steps::track, rules::specs::Table::write, rules::specs::Table::with_table))]
 fn track(hub: &mut Hub, key: u64, weight: u64, i: usize)
-    requires { (i < record_count hub.old.table.now) × (weight ≤ most_weight) × (hub.old.gauge.ceiling ≤ most_total) }
+    requires { (i < record_count hub.old.table.now) × (weight ≤ most_weight) × (hub.old.gauge.now.ceiling ≤ most_total) }
     ensures same_lent { SameLent hub.old hub.new }
     ensures memory { memory hub.new ≡ track (memory hub.old) key weight i }
 {
@@ -79,42 +79,41 @@ fn track(hub: &mut Hub, key: u64, weight: u64, i: usize)
 }
 
 // Step 4.
-#[tactic(auto, unfolding(rules::specs::Steps::place, rules::specs::Answers::answer_number, rules::specs::Table::places, rules::specs::Table::size, rules::specs::Bytes::record_count, rules::specs::Table::with_gauge, rules::specs::Steps::evict, rules::specs::Steps::raised))]
-fn read_evicting(hub: &mut Hub, key: u64, weight: u64, coldest: Option<(usize, Record)>) -> Answer
-    requires { (weight ≤ most_weight) × HeatsFit (memory hub.old) × LinesFit (memory hub.old) × (hub.old.gauge.serial < serial_limit) × (coldest ≡ victim (record_at hub.old.table.now) (record_count hub.old.table.now)) }
+#[tactic(auto, unfolding(rules::specs::Steps::place, rules::specs::Table::places, rules::specs::Table::size, rules::specs::Bytes::record_count, rules::specs::Table::with_gauge, rules::specs::Steps::evict, rules::specs::Steps::raised))]
+fn read_evicting(hub: &mut Hub, key: u64, weight: u64, i: usize, v: Record) -> Answer
+    requires { (weight ≤ most_weight) × HeatsFit (memory hub.old) × LinesFit (memory hub.old) × (hub.old.gauge.now.serial < serial_limit) × (victim (record_at hub.old.table.now) (record_count hub.old.table.now) ≡ Some (i, v)) }
     ensures same_lent { SameLent hub.old hub.new }
     ensures outcome { outcome (Ok result) (memory hub.new) ≡ place (memory hub.old) key weight None None (victim (record_at hub.old.table.now) (record_count hub.old.table.now)) }
     ensures answer_bound { answer_number result < 2 ^ 64 }
 {
-    let Some((i, v)) = coldest else {
-        return Answer::Passed;
-    };
     hub.gauge.ceiling = hub.gauge.ceiling.max(v.heat);
     track(hub, key, weight, i);
     admission(hub, i)
 }
 
 // Steps 3 and 4.
-#[tactic(auto, unfolding(rules::specs::Steps::place, rules::specs::Bytes::record_count, rules::specs::Table::size))]
+#[tactic(auto, unfolding(rules::specs::Steps::place, rules::specs::Answers::answer_number, rules::specs::Bytes::record_count, rules::specs::Table::size))]
 fn read_untracked(hub: &mut Hub, key: u64, weight: u64) -> Answer
-    requires { (weight ≤ most_weight) × HeatsFit (memory hub.old) × LinesFit (memory hub.old) × (hub.old.gauge.serial < serial_limit) }
+    requires { (weight ≤ most_weight) × HeatsFit (memory hub.old) × LinesFit (memory hub.old) × (hub.old.gauge.now.serial < serial_limit) }
     ensures same_lent { SameLent hub.old hub.new }
     ensures outcome { outcome (Ok result) (memory hub.new) ≡ place (memory hub.old) key weight None (free_record (record_at hub.old.table.now) (record_count hub.old.table.now)) (victim (record_at hub.old.table.now) (record_count hub.old.table.now)) }
     ensures answer_bound { answer_number result < 2 ^ 64 }
 {
     let table = &mut *hub.table;
-    let found = replaceable(table);
-    let Some((i, _)) = found.free else {
-        return read_evicting(hub, key, weight, found.coldest);
-    };
-    track(hub, key, weight, i);
-    admission(hub, i)
+    match replaceable(table) {
+        Replacement::Free(i) => {
+            track(hub, key, weight, i);
+            admission(hub, i)
+        }
+        Replacement::Victim(i, v) => read_evicting(hub, key, weight, i, v),
+        Replacement::Nothing => Answer::Passed,
+    }
 }
 
 // Steps 2 to 6.
 #[tactic(auto, unfolding(rules::specs::Steps::read_counted, rules::specs::Steps::place, rules::specs::Table::places, rules::specs::Table::size, rules::specs::Bytes::record_count, rules::specs::Table::heated, rules::specs::Table::write, rules::specs::Table::with_table))]
 fn read_counted(hub: &mut Hub, key: u64, weight: u64) -> Answer
-    requires { (weight ≤ most_weight) × HeatsFit (memory hub.old) × LinesFit (memory hub.old) × (hub.old.gauge.serial < serial_limit) }
+    requires { (weight ≤ most_weight) × HeatsFit (memory hub.old) × LinesFit (memory hub.old) × (hub.old.gauge.now.serial < serial_limit) }
     ensures same_lent { SameLent hub.old hub.new }
     ensures outcome { outcome (Ok result) (memory hub.new) ≡ read_counted (memory hub.old) key weight }
     ensures answer_bound { answer_number result < 2 ^ 64 }
@@ -141,7 +140,7 @@ fn peek(table: &[u8], key: u64) -> Answer
 
 #[tactic(auto, unfolding(rules::specs::Steps::read_steps, rules::specs::Steps::peek_steps, rules::specs::Table::places, rules::specs::Table::size, rules::specs::Steps::decay_for, rules::specs::Steps::aged, rules::specs::Steps::aged_gauge, rules::specs::Table::with_gauge, rules::specs::Table::half_down, rules::specs::Steps::warm_steps, rules::specs::Steps::grown))]
 pub fn read_steps(hub: &mut Hub, key: u64, weight: u64) -> Answer
-    requires { (hub.old.gauge.total ≤ most_total) × (weight ≤ most_weight) × HeatsFit (memory hub.old) × LinesFit (memory hub.old) × (0 < weight → hub.old.gauge.serial < serial_limit) }
+    requires { (hub.old.gauge.now.total ≤ most_total) × (weight ≤ most_weight) × HeatsFit (memory hub.old) × LinesFit (memory hub.old) × (0 < weight → hub.old.gauge.now.serial < serial_limit) }
     ensures same_lent { SameLent hub.old hub.new }
     ensures outcome { outcome (Ok result) (memory hub.new) ≡ read_steps (memory hub.old) key weight }
     ensures answer_bound { answer_number result < 2 ^ 64 }
@@ -159,7 +158,7 @@ pub fn read_steps(hub: &mut Hub, key: u64, weight: u64) -> Answer
 
 #[tactic(auto, unfolding(rules::specs::Steps::update_steps, rules::specs::Steps::change, rules::specs::Table::places, rules::specs::Table::size, rules::specs::Answers::answer_number, rules::specs::Table::emptied, rules::specs::Table::is_lined, rules::specs::Table::empty_state, rules::specs::Table::line_of, rules::specs::Bytes::record_count, rules::specs::Table::cooled, rules::specs::Table::write, rules::specs::Table::with_table))]
 pub fn update_steps(hub: &mut Hub, key: u64, weight: u64) -> Answer
-    requires { LinesFit (memory hub.old) × (hub.old.gauge.serial < serial_limit) }
+    requires { LinesFit (memory hub.old) × (hub.old.gauge.now.serial < serial_limit) }
     ensures same_lent { SameLent hub.old hub.new }
     ensures outcome { outcome (Ok result) (memory hub.new) ≡ update_steps (memory hub.old) key weight }
     ensures answer_bound { answer_number result < 2 ^ 64 }

@@ -1,4 +1,4 @@
 pub mod Claiming
-pub mod First
 pub mod Marks
 pub mod Replacing
+pub mod Stops

@@ -1,17 +1,19 @@
--- The search for a record to replace, a record further: one on a line changes nothing, one that does not serve leaves what is held,
--- one that serves and is not free is held. Assumes nothing.
-use Prim.Native.Nat.{ℕ, ◌+◌, ◌≤◌}
-use mathlib.Core.Path.{◌≡◌, refl}
+-- The search for a record to replace: what the first record without a line says, and a record further, where one that does not serve
+-- leaves what is held, and one that serves and is not free is held. Assumes nothing.
+use Prim.Native.Nat.{ℕ, zero, suc, ◌+◌, ◌<◌}
+use mathlib.Core.Path.{◌≡◌, refl, sym}
 use mathlib.Core.Logic.{◌≢◌}
-use mathlib.Core.Bool.{Bool, true, false, ◌||◌}
+use mathlib.Core.Bool.{Bool, true, false, not, ◌||◌}
 use native.Mathlib.Numerals.{add-one}
 use native.Mathlib.Omega.{arith}
-use borrow.Author.Tests.{eq-eqb, ne_eqb}
+use borrow.Author.Tests.{ltb-true, ltb-false, eq-eqb, ne_eqb}
+use Rattle.std.specs.Prelude.{Some, None}
+use Rattle.rules.proofs.Searches.{first_at, first_nowhere}
 use Rattle.rules.specs.declared.Record.{Record}
-use Rattle.rules.specs.Pass.{pass, best, best_of}
-use Rattle.rules.specs.Table.{is_free, is_unlined, free_record, colder, victim}
-use Rattle.tracker.specs.Replacing.{NoneYet, IsFirstUnlined, ColdestYet, serves}
-use Rattle.tracker.proofs.First.{not_here}
+use Rattle.rules.specs.Pass.{pass, first, first_of, best, best_of}
+use Rattle.rules.specs.Table.{is_free, is_unlined, is_lined, free_record, colder, victim}
+use Rattle.tracker.specs.Replacing.{is_off_line, ColdestYet, serves}
+use Rattle.tracker.proofs.Stops.{found_here, not_here}
 
 neither : (a b : Bool) → (a || b) ≡ false → (a ≡ false) × (b ≡ false)
 neither true b e = absurd (let z : ◌≡◌ {A = ℕ} 0 1 = cc in omega arith)
@@ -20,24 +22,49 @@ neither false b e = (refl, e)
 second : (a b : Bool) → (a || b) ≡ true → a ≡ false → b ≡ true
 second a b e f = rw f at e
 
+on_line : (b : Bool) → not b ≡ false → b ≡ true
+on_line true e = refl
+on_line false e = sym e
+
+not_on_line : (b : Bool) → not b ≡ true → b ≡ false
+not_on_line true e = sym e
+not_on_line false e = refl
+
+module _ (f : ℕ → Record) where
+  none_yet : (n : ℕ) → ((i : ℕ) → i < n → is_off_line (f i) ≡ false) → (free_record f n ≡ None) × (victim f n ≡ None)
+  unfolding free_record is_free victim is_unlined is_lined first_of best_of pass first best
+  none_yet zero lined = (refl, refl)
+  none_yet (suc n) lined =
+      let (free, held) = none_yet n (λ i below. lined i (omega arith)) in
+      let more = ltb-true _ _ (on_line _ (lined n (omega arith))) in
+      (rw (free, ne_eqb (f n).state 0 (omega arith)), rw (held, ne_eqb (f n).state 1 (omega arith)))
+
+  module _ (n : ℕ) where
+    pub none_first : None ≡ first_of is_off_line f n → (free_record f n ≡ None) × (victim f n ≡ None)
+    none_first e = none_yet n (first_nowhere is_off_line f n (sym e))
+
+    module _ (i : ℕ) (r : Record) (found : Some (i, r) ≡ first_of is_off_line f n) where
+      pub free_first : r.state ≡ 0 → free_record f n ≡ Some (i, f i)
+      unfolding free_record is_free
+      free_first free =
+          let h = first_at is_off_line f n i r (sym found) in
+          let none = none_yet i h.before in
+          rw (← h.is) (sym (found_here is_free f i r none.0 h.is n h.inside (eq-eqb r.state 0 free)))
+
+      pub held_first : r.state ≢ 0 → (i < n) × ColdestYet f (i + 1) i
+      unfolding free_record is_free victim best_of pass best is_unlined is_lined
+      held_first taken =
+          let h = first_at is_off_line f n i r (sym found) in
+          let below = ltb-false _ _ (not_on_line _ h.passes) in
+          let none = none_yet i h.before in (
+            h.inside,
+            record {
+              none_free = not_here is_free f i r none.0 h.is (ne_eqb r.state 0 taken);
+              holds = rw (add-one, none.1, ← h.is, eq-eqb r.state 1 (omega arith));
+            },
+          )
+
 module _ (f : ℕ → Record) (i : ℕ) (r : Record) (read : r ≡ f i) where
-  pub none_more : NoneYet f i → 2 ≤ r.state → NoneYet f (i + 1)
-  unfolding free_record is_free victim best_of pass best is_unlined
-  none_more none lined =
-      record {
-        none_free = not_here is_free f i r none.none_free read (ne_eqb r.state 0 (omega arith));
-        none_held = rw (add-one, none.none_held, ← read, ne_eqb r.state 1 (omega arith));
-      }
-
-  pub first_held : (n : ℕ) → IsFirstUnlined f n i → r.state ≢ 0 → ColdestYet f (i + 1) i
-  unfolding free_record is_free victim best_of pass best is_unlined
-  first_held n first taken =
-      let here = rw (← read) at first.here in
-      record {
-        none_free = not_here is_free f i r first.before.none_free read (ne_eqb r.state 0 taken);
-        holds = rw (add-one, first.before.none_held, ← read, eq-eqb r.state 1 (omega arith));
-      }
-
   module _ (held least : ℕ) (so_far : ColdestYet f i held) (same : least ≡ (f held).heat) where
     pub stays : serves least r ≡ false → ColdestYet f (i + 1) held
     unfolding free_record victim best_of pass best colder serves

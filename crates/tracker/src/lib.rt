@@ -1,15 +1,17 @@
 // What a pass over the table finds.
 #![tactic(auto)]
 
-ghost use Rattle.std.specs.Prelude.{◌≡◌, ◌+◌, ◌≤◌, ◌<◌, length};
+ghost use Rattle.std.specs.Prelude.{Bool, ◌≡◌, ◌+◌, ◌≤◌, ◌<◌, length};
 ghost use Rattle.rules.specs.Bytes.{record_at, record_count};
+ghost use Rattle.rules.specs.declared.Record.{Record};
+ghost use Rattle.rules.specs.Pass.{first_of};
 ghost use Rattle.rules.specs.Table.{has_key, key_record, coldest_lined, hottest_unlined, lookup};
 ghost use Rattle.rules.specs.Answers.{lookup_said};
 ghost use Rattle.rules.specs.Calls.{most_records};
 ghost use Rattle.rules.specs.Numbers.{key_said};
 ghost use Rattle.tracker.specs.Claiming.{ClaimFits, lined_heat, below, IsClaim};
 ghost use Rattle.tracker.specs.Marks.{Unmarked, Marks, lowest_unmarked};
-ghost use Rattle.tracker.specs.Replacing.{FirstUnlined, ColdestYet, serves, IsReplaceable};
+ghost use Rattle.tracker.specs.Replacing.{is_off_line, ColdestYet, serves, IsReplaceable};
 
 use fields::{is_filled, is_lined, is_unlined, line_of};
 use records::{RECORD_SIZE, record_at};
@@ -20,6 +22,21 @@ const FEW: usize = 64;
 
 // ---- searches that stop at the first record that serves
 
+// The first record that passes a test.
+#[tactic(auto, unfolding(rules::specs::Bytes::record_count, rules::specs::Pass::first_of, rules::specs::Pass::pass), using(crate::proofs::Stops::found_here, crate::proofs::Stops::not_here))]
+fn first<F: Fn(Record) -> bool>(table: &[u8], test: F) -> Option<(usize, Record)>
+    requires { F.IsAlwaysCallable test }
+    ensures { (p : Record → Bool) → ((r passes : _) → F.post test r passes → passes ≡ p r) → result ≡ first_of p (record_at table.now) (record_count table.now) }
+{
+    for i in 0..table.len() / RECORD_SIZE {
+        let r = record_at(table, i);
+        if test(r) {
+            return Some((i, r));
+        }
+    }
+    None
+}
+
 #[tactic(auto, unfolding(rules::specs::Table::has_key, rules::specs::Table::is_tracked))]
 fn has_key(r: Record, key: u64) -> bool
     ensures { result ≡ has_key key r }
@@ -28,17 +45,11 @@ fn has_key(r: Record, key: u64) -> bool
 }
 
 // The record of a key.
-#[tactic(auto, unfolding(rules::specs::Bytes::record_count, rules::specs::Table::key_record, rules::specs::Pass::first_of, rules::specs::Pass::pass), using(crate::proofs::First::found_here, crate::proofs::First::not_here))]
+#[tactic(auto, unfolding(rules::specs::Table::key_record))]
 pub fn key_record(table: &[u8], key: u64) -> Option<(usize, Record)>
     ensures { result ≡ key_record key (record_at table.now) (record_count table.now) }
 {
-    for i in 0..table.len() / RECORD_SIZE {
-        let r = record_at(table, i);
-        if has_key(r, key) {
-            return Some((i, r));
-        }
-    }
-    None
+    first(table, |r| has_key(r, key))
 }
 
 // A key, looked up.
@@ -61,25 +72,22 @@ pub fn lookup(table: &[u8], key: u64) -> Lookup
 
 // ---- the record that an untracked key gets
 
-// The first free record, and the coldest without a line where none is free: the one to evict.
+// What an untracked key can replace.
 #[derive(Clone, Copy)]
-pub struct Replacements {
-    pub free: Option<(usize, Record)>,
-    pub coldest: Option<(usize, Record)>,
+pub enum Replacement {
+    // The place of the first free record.
+    Free(usize),
+    // Where none is free, the coldest record without a line, which is evicted: its place and the record.
+    Victim(usize, Record),
+    // Where every record is on a line, nothing.
+    Nothing,
 }
 
-// The first place whose record has no line.
-#[tactic(auto, unfolding(rules::specs::Bytes::record_count, rules::specs::Table::free_record, rules::specs::Table::victim, rules::specs::Pass::first_of, rules::specs::Pass::best_of, rules::specs::Pass::pass), using(crate::proofs::Replacing::none_more))]
-fn first_unlined(table: &[u8]) -> Option<usize>
-    ensures { FirstUnlined (record_at table.now) (record_count table.now) result }
+// The first record that is on no line.
+fn first_off_line(table: &[u8]) -> Option<(usize, Record)>
+    ensures { result ≡ first_of is_off_line (record_at table.now) (record_count table.now) }
 {
-    for i in 0..table.len() / RECORD_SIZE {
-        let r = record_at(table, i);
-        if r.state < 2 {
-            return Some(i);
-        }
-    }
-    None
+    first(table, |r| !is_lined(r))
 }
 
 // Whether a record is free, or without a line and colder than the one that is held.
@@ -91,52 +99,37 @@ fn serves(r: Record, least: u64) -> bool
     r.state < limit
 }
 
-// The same search from a place on, before which no record is free and the coldest without a line is known.
-#[tactic(auto, unfolding(rules::specs::Bytes::record_count, rules::specs::Table::free_record, rules::specs::Table::is_free), using(crate::proofs::First::found_here))]
-fn replaceable_from(table: &[u8], from: usize, held: usize) -> Replacements
-    requires { (from ≤ record_count table.now) × (held < record_count table.now) × ColdestYet (record_at table.now) from held }
-    ensures { IsReplaceable (record_at table.now) (record_count table.now) result.free result.coldest }
+// The same search past a place, up to which no record is free and the coldest without a line is the one there.
+#[tactic(auto, unfolding(rules::specs::Bytes::record_count, rules::specs::Table::free_record, rules::specs::Table::is_free), using(crate::proofs::Stops::found_here))]
+fn replaceable_after(table: &[u8], held: usize) -> Replacement
+    requires { (held < record_count table.now) × ColdestYet (record_at table.now) (held + 1) held }
+    ensures { IsReplaceable (record_at table.now) (record_count table.now) result }
 {
     let mut best = held;
     let mut least = record_at(table, held).heat;
-    for i in from..table.len() / RECORD_SIZE {
+    for i in held + 1..table.len() / RECORD_SIZE {
         let r = record_at(table, i);
         if serves(r, least) {
             if r.state == 0 {
-                return Replacements {
-                    free: Some((i, r)),
-                    coldest: None,
-                };
+                return Replacement::Free(i);
             }
             best = i;
             least = r.heat;
         }
     }
-    Replacements {
-        free: None,
-        coldest: Some((best, record_at(table, best))),
-    }
+    Replacement::Victim(best, record_at(table, best))
 }
 
 // What an untracked key can replace, in one pass that stops at a free record.
-#[tactic(auto, unfolding(rules::specs::Bytes::record_count, rules::specs::Table::free_record, rules::specs::Table::is_free), using(crate::proofs::First::found_here))]
-pub fn replaceable(table: &[u8]) -> Replacements
-    ensures { IsReplaceable (record_at table.now) (record_count table.now) result.free result.coldest }
+#[tactic(auto, using(crate::proofs::Replacing::free_first))]
+pub fn replaceable(table: &[u8]) -> Replacement
+    ensures { IsReplaceable (record_at table.now) (record_count table.now) result }
 {
-    let Some(i) = first_unlined(table) else {
-        return Replacements {
-            free: None,
-            coldest: None,
-        };
-    };
-    let r = record_at(table, i);
-    if r.state == 0 {
-        return Replacements {
-            free: Some((i, r)),
-            coldest: None,
-        };
+    match first_off_line(table) {
+        None => Replacement::Nothing,
+        Some((i, r)) if r.state == 0 => Replacement::Free(i),
+        Some((i, _)) => replaceable_after(table, i),
     }
-    replaceable_from(table, i + 1, i)
 }
 
 // ---- searches that see every record
@@ -158,7 +151,7 @@ pub fn hottest_unlined(table: &[u8]) -> Option<(usize, Record)>
 
 // ---- the line that a record gets
 
-// The lowest line that no record is on, and the coldest record on a line.
+// The lowest line that no record is on, and the coldest record on a line. (No enum: each is told whatever the other is.)
 #[derive(Clone, Copy)]
 pub struct Claim {
     pub line: Option<usize>,

@@ -1,7 +1,7 @@
 // Whether a call is refused, and why: the tests of document 01, in its order, as document 02 has them.
 #![tactic(auto)]
 
-ghost use Rattle.std.specs.Prelude.{◌≡◌, [], ◌∷◌, ◌≤◌};
+ghost use Rattle.std.specs.Prelude.{◌≡◌, true, [], ◌∷◌, ◌≤◌};
 ghost use Rattle.rules.specs.Bytes.{record_at, record_count};
 ghost use Rattle.rules.specs.Table.{record_in_order, in_order};
 ghost use Rattle.rules.specs.Calls.{most_records, seen, sizes_good, must, verdict, sizes_test, order_test, serial_test, read_verdict, update_verdict, fill_verdict, plain_verdict};
@@ -66,67 +66,75 @@ pub fn in_order(table: &[u8], gauge: Gauge, lines: usize) -> bool
 
 // ---- the tests of a call
 
-// The tests of sizes and of order, with a test of the call's own between them: whether it was good, and the cause if not. Last,
-// whether the serial was good for it.
-#[tactic(auto, using(rules::proofs::Memories::sizes_say), unfolding(rules::specs::Bytes::line_count, rules::specs::Calls::verdict, rules::specs::Calls::sizes_test, rules::specs::Calls::order_test, rules::specs::Calls::order_good, rules::specs::Table::places, rules::specs::Table::size, rules::specs::Table::line_total, rules::specs::Calls::serial_test))]
-fn checked(lent: View, good: bool, cause: Refusal, serial_good: bool) -> Result<(), Refusal>
-    ensures { result ≡ verdict (sizes_test (seen lent.entry) ∷ must good cause ∷ order_test (seen lent.entry) ∷ serial_test serial_good ∷ []) }
+// One test: refused with a cause, unless it is good.
+#[tactic(auto, unfolding(rules::specs::Calls::verdict))]
+fn must(good: bool, cause: Refusal) -> Result<(), Refusal>
+    ensures { result ≡ verdict (must good cause ∷ []) }
 {
-    if !sizes_good(lent.table, lent.lines) {
-        return Err(Refusal::WrongSizes);
-    }
-    if !good {
-        return Err(cause);
-    }
-    if !in_order(lent.table, lent.gauge, lent.lines.len() / LINE_SIZE) {
-        return Err(Refusal::NotInOrder);
-    }
-    if !serial_good {
-        return Err(Refusal::SerialSpent);
-    }
-    Ok(())
+    if good { Ok(()) } else { Err(cause) }
 }
 
-// For a call without a test of its own: that one passes, so its cause does not matter.
-#[tactic(auto, unfolding(rules::specs::Calls::plain_verdict, rules::specs::Calls::verdict, rules::specs::Calls::serial_test))]
+#[tactic(auto, unfolding(rules::specs::Calls::sizes_test))]
+fn sizes_test(lent: View) -> Result<(), Refusal>
+    ensures { result ≡ verdict (sizes_test (seen lent.entry) ∷ []) }
+{
+    must(sizes_good(lent.table, lent.lines), Refusal::WrongSizes)
+}
+
+// The table's order, once the sizes are good.
+#[tactic(auto, using(rules::proofs::Memories::sizes_say), unfolding(rules::specs::Bytes::line_count, rules::specs::Calls::order_test, rules::specs::Calls::order_good, rules::specs::Table::places, rules::specs::Table::size, rules::specs::Table::line_total))]
+fn order_test(lent: View) -> Result<(), Refusal>
+    requires { sizes_good lent.table.now lent.lines.now ≡ true }
+    ensures { result ≡ verdict (order_test (seen lent.entry) ∷ []) }
+{
+    must(
+        in_order(lent.table, lent.gauge, lent.lines.len() / LINE_SIZE),
+        Refusal::NotInOrder,
+    )
+}
+
+// Whether the serial was good for the call.
+#[tactic(auto, unfolding(rules::specs::Calls::serial_test))]
+fn serial_test(good: bool) -> Result<(), Refusal>
+    ensures { result ≡ verdict (serial_test good ∷ []) }
+{
+    must(good, Refusal::SerialSpent)
+}
+
+#[tactic(auto, unfolding(rules::specs::Calls::plain_verdict, rules::specs::Calls::verdict, rules::specs::Calls::sizes_test))]
 pub fn plain_verdict(lent: View) -> Result<(), Refusal>
     ensures { result ≡ plain_verdict (seen lent.entry) }
 {
-    checked(lent, true, Refusal::WrongWeight, true)
+    sizes_test(lent)?;
+    order_test(lent)
 }
 
-#[tactic(auto, unfolding(rules::specs::Calls::read_verdict, rules::specs::Calls::read_weight_good, rules::specs::Calls::serial_good))]
+#[tactic(auto, unfolding(rules::specs::Calls::read_verdict, rules::specs::Calls::verdict, rules::specs::Calls::sizes_test, rules::specs::Calls::read_weight_good, rules::specs::Calls::serial_good))]
 pub fn read_verdict(lent: View, weight: u64) -> Result<(), Refusal>
     ensures { result ≡ read_verdict (seen lent.entry) weight }
 {
-    checked(
-        lent,
-        weight <= MOST_WEIGHT,
-        Refusal::WrongWeight,
-        weight == 0 || lent.gauge.serial < SERIAL_LIMIT,
-    )
+    sizes_test(lent)?;
+    must(weight <= MOST_WEIGHT, Refusal::WrongWeight)?;
+    order_test(lent)?;
+    serial_test(weight == 0 || lent.gauge.serial < SERIAL_LIMIT)
 }
 
-#[tactic(auto, unfolding(rules::specs::Calls::update_verdict, rules::specs::Calls::update_weight_good, rules::specs::Calls::serial_good))]
+#[tactic(auto, unfolding(rules::specs::Calls::update_verdict, rules::specs::Calls::verdict, rules::specs::Calls::sizes_test, rules::specs::Calls::update_weight_good, rules::specs::Calls::serial_good))]
 pub fn update_verdict(lent: View, weight: u64) -> Result<(), Refusal>
     ensures { result ≡ update_verdict (seen lent.entry) weight }
 {
-    checked(
-        lent,
-        1 <= weight && weight <= MOST_WEIGHT,
-        Refusal::WrongWeight,
-        lent.gauge.serial < SERIAL_LIMIT,
-    )
+    sizes_test(lent)?;
+    must(1 <= weight && weight <= MOST_WEIGHT, Refusal::WrongWeight)?;
+    order_test(lent)?;
+    serial_test(lent.gauge.serial < SERIAL_LIMIT)
 }
 
-#[tactic(auto, unfolding(rules::specs::Calls::fill_verdict, rules::specs::Calls::picture_good, rules::specs::Calls::serial_good))]
+#[tactic(auto, unfolding(rules::specs::Calls::fill_verdict, rules::specs::Calls::verdict, rules::specs::Calls::sizes_test, rules::specs::Calls::picture_good, rules::specs::Calls::serial_good))]
 pub fn fill_verdict(lent: View, picture: &[u8]) -> Result<(), Refusal>
     ensures { result ≡ fill_verdict (seen lent.entry) picture.now }
 {
-    checked(
-        lent,
-        picture.len() == LINE_SIZE,
-        Refusal::WrongPicture,
-        lent.gauge.serial < SERIAL_LIMIT,
-    )
+    sizes_test(lent)?;
+    must(picture.len() == LINE_SIZE, Refusal::WrongPicture)?;
+    order_test(lent)?;
+    serial_test(lent.gauge.serial < SERIAL_LIMIT)
 }

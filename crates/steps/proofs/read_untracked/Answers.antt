@@ -1,4 +1,4 @@
-use Rattle.std.proofs.Common.{sym, ◌∙◌, arith}
+use Rattle.std.proofs.Common.{arith}
 use Rattle.rules.specs.Bytes.{record_count}
 use Rattle.rules.specs.Table.{size}
 use Rattle.rules.proofs.Finds.{free_found}
@@ -7,13 +7,13 @@ use Rattle.steps.proofs.read_untracked.Goals as goal
 
 pub track-requires : goal.track-requires
 track-requires c =
-    let found = free_found _ _ _ _ (sym c.replaceable-found.ensures.free_is ∙ c.in-Some.is) in
+    let found = free_found _ _ _ _ c.in-Free.ensures in
     (found.inside, c.requires.0, c.requires.1.ceiling)
 
 pub admission-requires : goal.admission-requires
 unfolding record_count size
 admission-requires c =
-    let found = free_found _ _ _ _ (sym c.replaceable-found.ensures.free_is ∙ c.in-Some.is) in
+    let found = free_found _ _ _ _ c.in-Free.ensures in
     let (weight, heats, lines, serial) = c.requires in
     let is = c.track.ensures.memory in
     let fits = track_fits _ c.args.key _ _ lines heats found.inside (omega arith) weight in

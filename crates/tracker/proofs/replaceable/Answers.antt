@@ -1,8 +1,8 @@
-use Rattle.std.proofs.Common.{arith}
-use Rattle.tracker.proofs.Replacing.{first_held}
+use Rattle.tracker.proofs.Replacing.{none_first, held_first}
 use Rattle.tracker.proofs.replaceable.Goals as goal
 
-pub replaceable_from-requires : goal.replaceable_from-requires
-replaceable_from-requires c =
-    let first = c.in-Some.ensures in
-    (omega arith, first.inside, first_held _ _ _ c.record_at-r.ensures _ first c.if-r-eq0.false)
+pub returns-in-None : goal.returns-in-None
+returns-in-None c = none_first _ _ c.in-None.ensures
+
+pub replaceable_after-requires : goal.replaceable_after-requires
+replaceable_after-requires c = held_first _ _ _ _ c.in-Some.ensures c.if-r-eq0.false

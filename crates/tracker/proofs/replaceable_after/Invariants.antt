@@ -1,7 +1,7 @@
 use Rattle.std.proofs.Common.{◌≡◌, ◌<◌}
 use Rattle.rules.specs.Bytes.{record_at, record_count}
 use Rattle.tracker.specs.Replacing.{ColdestYet}
-use Rattle.tracker.proofs.replaceable_from.Given as goal
+use Rattle.tracker.proofs.replaceable_after.Given as goal
 
 abbrev pub invariant-loop-i : goal.invariant-loop-i
 invariant-loop-i l =

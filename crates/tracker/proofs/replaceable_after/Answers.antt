@@ -1,8 +1,8 @@
 use Rattle.std.proofs.Common.{sym}
 use Rattle.rules.specs.Bytes.{record_count}
 use Rattle.tracker.proofs.Replacing.{stays, moves}
-use Rattle.tracker.proofs.replaceable_from.Goals as goal
-use Rattle.tracker.proofs.replaceable_from.Goals.{then-serves+else-r-eq0, else-serves}
+use Rattle.tracker.proofs.replaceable_after.Goals as goal
+use Rattle.tracker.proofs.replaceable_after.Goals.{then-serves+else-r-eq0, else-serves}
 
 pub loop-i-preserved : goal.loop-i-preserved
 unfolding record_count
