@@ -27,18 +27,19 @@ pub fn sizes_good(table: &[u8], lines: &[u8]) -> bool
 // ---- order
 
 // Whether a record is in order. One on a line is asked for its line alone; of any other the ticket is looked at first, also of a free
-// one, which is all zero.
+// one, which is all zero. (No match of the state: it proves, and a call is up to an eighth slower.)
 #[tactic(auto, unfolding(rules::specs::Table::record_in_order, rules::specs::Table::is_tracked, rules::specs::Table::is_lined))]
 fn record_in_order(r: Record, total: u64, lines: usize) -> bool
     requires { lines ≤ most_records }
     ensures { result ≡ record_in_order total lines r }
 {
-    r.heat <= total
-        && match r.state {
-            0 => r.ticket == 0 && is_zero(r),
-            1 => r.ticket == 0,
-            state => state <= 1 + 2 * (lines as u64),
-        }
+    if total < r.heat {
+        return false;
+    }
+    if is_lined(r) {
+        return r.state <= 1 + 2 * (lines as u64);
+    }
+    r.ticket == 0 && (0 < r.state || is_zero(r))
 }
 
 // Whether the table is in order, in one pass.
