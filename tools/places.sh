@@ -37,7 +37,7 @@ count 1 'constants that number a refusal' 'const (WRONG|NOT_IN|NO_LINE|ALREADY|U
 count 1 'tests of a kind by its number' '\bkind == [0-9]'
 count 1 'tests of a state by its number' 'state (<|<=|==|%|/|-) [0-9]|\b[0-9] < r\.state|< limit'
 count 1 'fields that say how a run or a write went' '^    (pub )?(whole|wrote|filled|found): bool,'
-count 1 'values that stand for none' '^    n$|^    lines$|= LARGEST|let mut best = n'
+count 1 'values that stand for none' '^    n$|^    lines$|= (LARGEST|u64::MAX);|let mut best = n'
 count 2 'setters' 'fn with_[a-z]+\('
 count 2 'wrappers of a call by another loan of the gauge' '= (cache|lent)::(read|update|age)\('
 count 2 'exports that read, lend and put back a gauge' 'put_gauge\(gauge, '

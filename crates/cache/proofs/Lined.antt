@@ -1,16 +1,14 @@
 -- What a lookup says: one that finds a line gives the place of a record on that line, and in a memory whose states name lines that
 -- are there the line lies inside. Assumes nothing.
-use Prim.Native.Nat.{ℕ, ◌+◌, ◌*◌, ◌≤◌, ◌<◌}
+use Prim.Native.Nat.{ℕ, ◌<◌}
 use mathlib.Core.Path.{◌≡◌, refl}
 use mathlib.Core.Bool.{Bool, true, false}
 use native.Mathlib.Omega.{arith}
 use borrow.Author.Tests.{ltb-true}
-use lib.ListN.{length}
 use Rattle.rules.specs.declared.Record.{Record}
 use Rattle.rules.specs.Pass.{Found}
 use Rattle.std.specs.Prelude.{Some, None}
 use Rattle.rules.specs.declared.Lookup.TheVariants.{Unlined, Lined}
-use Rattle.rules.specs.Bytes.{line_size, line_count}
 use Rattle.std.specs.Prelude.{if◌then◌else◌}
 use Rattle.rules.specs.Table.{Memory, is_lined, is_filled, line_of, key_record, lookup, looked_up, places, size, line_total}
 use Rattle.rules.specs.Calls.{most_records}
@@ -23,11 +21,11 @@ pub record IsOn (m : Memory) (i n : ℕ) : Type 0 where
   pub lined : is_lined (places m i) ≡ true
   pub line : line_of (places m i) ≡ n
   pub few : n < most_records
-  pub room : line_size * n + line_size ≤ length m.lines
+  pub room : n < line_total m
 
 module _ (m : Memory) (key i n : ℕ) (full : Bool) (ticket : ℕ) (fits : LinesFit m) where
   on_record : (r : Record) → i < size m → r ≡ places m i → is_lined r ≡ true → line_of r ≡ n → IsOn m i n
-  unfolding is_lined line_of line_total line_count
+  unfolding is_lined line_of
   on_record r inside is lined line =
       let most = fits.state i inside in
       let more : 1 < (places m i).state = ltb-true _ _ (rw is at lined) in

@@ -3,8 +3,8 @@
 // the lines, no other call may, and to show and to sum may change nothing.
 #![tactic(auto)]
 
-ghost use Rattle.std.specs.Prelude.{◌≡◌, ◌++◌, ◌≤◌, ◌<◌, ◌*◌, ◌^◌, length, drop, replicate};
-ghost use Rattle.rules.specs.Bytes.{record_at, record_count, line_size};
+ghost use Rattle.std.specs.Prelude.{◌≡◌, ◌≤◌, ◌<◌, ◌*◌, ◌^◌};
+ghost use Rattle.rules.specs.Bytes.{record_at, record_count};
 ghost use Rattle.rules.specs.Pass.{sum_of};
 ghost use Rattle.rules.specs.Table.{most_total};
 ghost use Rattle.rules.specs.Calls.{most_records, lent, seen, fresh_outcome, read_outcome, update_outcome, fill_outcome, age_outcome, show_line, levelled_outcome};
@@ -16,8 +16,8 @@ ghost use Rattle.cache.specs.Room.{LevelsFit};
 ghost use Rattle.cache.specs.AsLent.{AsLent};
 
 use fields::{filled, level};
-use records::{LINE_SIZE, RECORD_SIZE, put_record, record_at};
-use rules::{Answer, Gauge, Hub, Lookup, Refusal, View};
+use records::{LINE_SIZE, RECORD_SIZE, change_record, line_at, put_line, record_at, record_count};
+use rules::{Answer, Gauge, Hub, Lookup, Refusal, View, must};
 use steps::{age_all, read_steps, update_steps};
 use tracker::lookup;
 use verdicts::{fill_verdict, plain_verdict, read_verdict, sizes_good, update_verdict};
@@ -30,9 +30,7 @@ pub fn fresh(table: &mut [u8], gauge: &mut Gauge, lines: &[u8]) -> Result<(), Re
     ensures outcome { outcome result (lent table.new gauge.new lines.now) ≡ fresh_outcome (lent table.old gauge.old lines.now) }
     ensures said { completion_said result ≡ fresh_said (lent table.old gauge.old lines.now) }
 {
-    if !sizes_good(table, lines) {
-        return Err(Refusal::WrongSizes);
-    }
+    must(sizes_good(table, lines), Refusal::WrongSizes)?;
     table.fill(0);
     *gauge = Gauge::default();
     Ok(())
@@ -72,12 +70,12 @@ pub fn read(
             lines,
         },
         key,
-        weight,
+        weight as u16, // after the verdict it fits
     ))
 }
 
 // Cools a class whose picture has changed, and empties its line.
-#[tactic(auto, unfolding(rules::specs::Calls::update_outcome, rules::specs::Calls::unless, rules::specs::Answers::number_of, rules::specs::Numbers::update_number), using(rules::proofs::Refusals::number_few, rules::proofs::Verdicts::update_accepted, steps::proofs::Rooms::order_fits))]
+#[tactic(auto, unfolding(rules::specs::Calls::update_outcome, rules::specs::Calls::unless, rules::specs::Answers::number_of, rules::specs::Numbers::update_number), using(rules::proofs::Refusals::number_few, rules::proofs::Verdicts::update_accepted))]
 pub fn update(
     table: &mut [u8],
     gauge: &mut Gauge,
@@ -119,16 +117,16 @@ pub fn age(table: &mut [u8], gauge: &mut Gauge, lines: &[u8]) -> Result<Answer, 
 
 // ---- Fill
 
-#[tactic(auto, unfolding(rules::specs::Bytes::put_line, rules::specs::Table::places, rules::specs::Table::size, rules::specs::Steps::fill_steps, rules::specs::Steps::store, rules::specs::Answers::number_of, rules::specs::Answers::answer_number, rules::specs::Refusals::number, rules::specs::Steps::store_in, rules::specs::Table::with_lines, rules::specs::Table::write, rules::specs::Table::with_table))]
+#[tactic(auto, unfolding(rules::specs::Table::places, rules::specs::Table::size, rules::specs::Steps::fill_steps, rules::specs::Steps::store, rules::specs::Answers::number_of, rules::specs::Answers::answer_number, rules::specs::Refusals::number, rules::specs::Steps::store_in, rules::specs::Table::with_lines, rules::specs::Table::write, rules::specs::Table::with_table))]
 fn fill_steps(
     table: &mut [u8],
     gauge: Gauge,
     lines: &mut [u8],
     key: u64,
-    picture: &[u8],
+    picture: &[u8; LINE_SIZE],
     ticket: u64,
 ) -> Result<Answer, Refusal>
-    requires { (length picture.now ≡ line_size) × LinesFit (lent table.old gauge lines.old) }
+    requires { LinesFit (lent table.old gauge lines.old) }
     ensures outcome { outcome result (lent table.new gauge lines.new) ≡ fill_steps (lent table.old gauge lines.old) key picture.now ticket }
     ensures answer_bound { number_of result < 2 ^ 64 }
 {
@@ -147,9 +145,8 @@ fn fill_steps(
     if ticket != given {
         return Err(Refusal::StaleTicket);
     }
-    lines[LINE_SIZE * line..LINE_SIZE * line + LINE_SIZE].copy_from_slice(picture);
-    let r = record_at(table, place);
-    put_record(table, place, filled(r));
+    put_line(lines, line, picture);
+    change_record(table, place, filled);
     Ok(Answer::Stored)
 }
 
@@ -168,6 +165,7 @@ pub fn fill(
     ensures answer_bound { number_of result < 2 ^ 64 }
 {
     fill_verdict(view(table, gauge, lines), picture)?;
+    let picture = picture.try_into().unwrap(); // after the verdict it has 64 bytes
     fill_steps(table, gauge, lines, key, picture, ticket)
 }
 
@@ -196,7 +194,7 @@ pub fn show<'a>(
         return stand_in;
     };
     if has_picture {
-        &lines[LINE_SIZE * line..LINE_SIZE * line + LINE_SIZE]
+        line_at(lines, line)
     } else {
         stand_in
     }
@@ -204,22 +202,23 @@ pub fn show<'a>(
 
 // ---- Levelled sum
 
-// The sum of the first n records' levels: of the first half, and of the rest as a part that begins at the middle record.
+// The sum of a part's levels: of the first half of its records, and of the rest.
 #[tactic(auto, unfolding(rules::specs::Bytes::record_count, rules::specs::Pass::sum_of, rules::specs::Steps::level, rules::specs::Pass::pass))]
-fn sum_levels(part: &[u8], ceiling: u64, n: usize) -> u64
-    requires { (n ≤ record_count part.now) × (n ≤ most_records) × LevelsFit part.now ceiling n }
-    ensures { (result ≡ sum_of (level ceiling) (record_at part.now) n) × (result ≤ n * most_total) }
+fn sum_levels(part: &[u8], ceiling: u64) -> u64
+    requires { (record_count part.now ≤ most_records) × LevelsFit part.now ceiling }
+    ensures { (result ≡ sum_of (level ceiling) (record_at part.now) (record_count part.now)) × (result ≤ record_count part.now * most_total) }
 {
+    let n = record_count(part);
     if n == 0 {
         return 0;
     }
     if n == 1 {
         return level(ceiling, record_at(part, 0));
     }
-    let half = n / 2;
-    let front = sum_levels(part, ceiling, half);
-    let rest = sum_levels(&part[RECORD_SIZE * half..], ceiling, n - half);
-    front + rest
+    let (first, rest) = part.split_at(RECORD_SIZE * (n / 2));
+    let front = sum_levels(first, ceiling);
+    let back = sum_levels(rest, ceiling);
+    front + back
 }
 
 // The sum, over all records, of the larger of heat and ceiling.
@@ -229,5 +228,5 @@ pub fn levelled_sum(table: &[u8], gauge: Gauge, lines: &[u8]) -> Result<u64, Ref
     ensures said { levels_said result ≡ levelled_said (lent table.now gauge lines.now) }
 {
     plain_verdict(view(table, gauge, lines))?;
-    Ok(sum_levels(table, gauge.ceiling, table.len() / RECORD_SIZE))
+    Ok(sum_levels(table, gauge.ceiling))
 }

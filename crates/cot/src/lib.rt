@@ -1,9 +1,11 @@
 // The functions that a C program links: the calls of the cache with the gauge as lent bytes, each returning one number.
 #![tactic(auto)]
 
-ghost use Rattle.std.specs.Prelude.{◌≡◌, ◌<◌, ◌^◌, length};
-ghost use Rattle.rules.specs.Bytes.{number_size, gauge_size, gauge_at, put_gauge};
-ghost use Rattle.rules.specs.Answers.{Reply, number_of, completion_number};
+ghost use Rattle.std.specs.Prelude.{ℕ, ◌≡◌, ◌<◌, ◌^◌, Result, Err};
+ghost use Rattle.rules.specs.declared.Refusal.{Refusal};
+ghost use Rattle.rules.specs.declared.Refusal.TheVariants.{WrongSizes};
+ghost use Rattle.rules.specs.Bytes.{gauge_at, put_gauge};
+ghost use Rattle.rules.specs.Answers.{number_of, completion_number};
 ghost use Rattle.rules.specs.Table.{Memory};
 ghost use Rattle.rules.specs.Steps.{Outcome, outcome};
 ghost use Rattle.rules.specs.Calls.{lent, host_lent, hosted, read_lent, put_ticket, exported, exported_read, read_outcome, update_outcome, fill_outcome, age_outcome, exported_fresh, exported_sum};
@@ -22,9 +24,9 @@ const NUMBER_SIZE: usize = 8;
 // What a host is told for done.
 const DONE: u64 = 0;
 
+// A host's gauge.
 #[tactic(auto, unfolding(rules::specs::Bytes::gauge_at))]
-fn gauge_at(bytes: &[u8]) -> Gauge
-    requires { length bytes.now ≡ gauge_size }
+fn gauge_at(bytes: &[u8; GAUGE_SIZE]) -> Gauge
     ensures { result ≡ gauge_at bytes.now }
 {
     Gauge {
@@ -35,8 +37,7 @@ fn gauge_at(bytes: &[u8]) -> Gauge
 }
 
 #[tactic(auto, unfolding(rules::specs::Bytes::put_gauge))]
-fn put_gauge(bytes: &mut [u8], g: Gauge)
-    requires { length bytes.old ≡ gauge_size }
+fn put_gauge(bytes: &mut [u8; GAUGE_SIZE], g: Gauge)
     ensures { bytes.new ≡ put_gauge bytes.old g }
 {
     put_u64(bytes, 0, g.total);
@@ -56,19 +57,18 @@ fn number_of(reply: Result<Answer, Refusal>) -> u64
         Ok(Answer::Unknown) => 102,
         Ok(Answer::Stored) => 103,
         Ok(Answer::Passed) => 104,
-        Ok(Answer::Hit(n)) => 2000 + n,
-        Ok(Answer::Wanted(n, _)) => 4000 + n,
+        Ok(Answer::Hit(line)) => 2000 + line,
+        Ok(Answer::Wanted { line, .. }) => 4000 + line,
         Err(cause) => cause.into(),
     }
 }
 
 // Puts the ticket of a wanted into lent bytes.
 #[tactic(auto, unfolding(rules::specs::Calls::put_ticket))]
-fn put_ticket(bytes: &mut [u8], reply: Result<Answer, Refusal>)
-    requires { length bytes.old ≡ number_size }
+fn put_ticket(bytes: &mut [u8; NUMBER_SIZE], reply: Result<Answer, Refusal>)
     ensures { bytes.new ≡ put_ticket bytes.old reply }
 {
-    if let Ok(Answer::Wanted(_, ticket)) = reply {
+    if let Ok(Answer::Wanted { ticket, .. }) = reply {
         put_u64(bytes, 0, ticket);
     }
 }
@@ -83,20 +83,17 @@ fn completion_number(completion: Result<(), Refusal>) -> u64
 
 // Makes a call of the cache on a host's memory: refuses a gauge of another size, and puts the gauge back as the call leaves it.
 #[tactic(auto, unfolding(rules::specs::Calls::hosted, rules::specs::Calls::gauge_test, rules::specs::Calls::verdict, rules::specs::Calls::unless, rules::specs::Calls::held, rules::specs::Calls::stored, rules::specs::Answers::number_of), using(rules::proofs::Refusals::number_few))]
-fn hosted<F: FnOnce(&mut [u8], &mut Gauge, &[u8]) -> Result<Answer, Refusal>>(
+fn hosted<T, F: FnOnce(&mut [u8], &mut Gauge, &[u8]) -> Result<T, Refusal>>(
     table: &mut [u8],
     gauge: &mut [u8],
     lines: &[u8],
     call: F,
-) -> Result<Answer, Refusal>
-    requires callable { F.IsAlwaysCallable call }
-    requires bounded { (t g l r t' g' : _) → F.post call t g l r t' g' → number_of r < 2 ^ 64 }
-    ensures outcome { (m : Memory → Outcome Reply Memory) → ((t g l r t' g' : _) → F.post call t g l r t' g' → outcome r (lent t'.now g'.now l.now) ≡ m (lent t.now g.now l.now)) → outcome result (host_lent table.new gauge.new lines.now) ≡ hosted m (host_lent table.old gauge.old lines.now) }
-    ensures answer_bound { number_of result < 2 ^ 64 }
+) -> Result<T, Refusal>
+    requires { F.IsAlwaysCallable call }
+    ensures outcome { (m : Memory → Outcome (Result T Refusal) Memory) → ((t g l r t' g' : _) → F.post call t g l r t' g' → outcome r (lent t'.now g'.now l.now) ≡ m (lent t.now g.now l.now)) → outcome result (host_lent table.new gauge.new lines.now) ≡ hosted m (host_lent table.old gauge.old lines.now) }
+    ensures bounded { (n : Result T Refusal → ℕ) → n (Err WrongSizes) < 2 ^ 64 → ((t g l r t' g' : _) → F.post call t g l r t' g' → n r < 2 ^ 64) → n result < 2 ^ 64 }
 {
-    if gauge.len() != GAUGE_SIZE {
-        return Err(Refusal::WrongSizes);
-    }
+    let gauge = gauge.as_mut_array().ok_or(Refusal::WrongSizes)?;
     let mut own = gauge_at(gauge);
     let reply = call(table, &mut own, lines);
     put_gauge(gauge, own);
@@ -105,17 +102,11 @@ fn hosted<F: FnOnce(&mut [u8], &mut Gauge, &[u8]) -> Result<Answer, Refusal>>(
 
 // Starts a table: every record free, the gauge zero. The lines keep their bytes.
 #[unsafe(no_mangle)]
-#[tactic(auto, unfolding(rules::specs::Calls::exported_fresh, rules::specs::Calls::gauge_test, rules::specs::Calls::verdict, rules::specs::Calls::unless, rules::specs::Calls::held, rules::specs::Calls::stored))]
+#[tactic(auto, unfolding(rules::specs::Calls::exported_fresh))]
 pub extern "C" fn cot_fresh(table: &mut [u8], gauge: &mut [u8], lines: &[u8]) -> u64
     ensures { outcome result (host_lent table.new gauge.new lines.now) ≡ exported_fresh (host_lent table.old gauge.old lines.now) }
 {
-    if gauge.len() != GAUGE_SIZE {
-        return Refusal::WrongSizes.into();
-    }
-    let mut fresh = gauge_at(gauge);
-    let completion = cache::fresh(table, &mut fresh, lines);
-    put_gauge(gauge, fresh);
-    completion_number(completion)
+    completion_number(hosted(table, gauge, lines, cache::fresh))
 }
 
 // Counts weight pieces of a class, and answers where its picture is. A weight of 0 is a look: it changes nothing. The 8 lent bytes get
@@ -132,9 +123,9 @@ pub extern "C" fn cot_read(
 ) -> u64
     ensures { outcome result (read_lent (host_lent table.new gauge.new lines.now) ticket.new) ≡ exported_read (λ m. read_outcome m key weight) (read_lent (host_lent table.old gauge.old lines.now) ticket.old) }
 {
-    if ticket.len() != NUMBER_SIZE {
+    let Some(ticket) = ticket.as_mut_array() else {
         return Refusal::WrongSizes.into();
-    }
+    };
     let reply = hosted(table, gauge, lines, |table, gauge, lines| {
         cache::read(table, gauge, lines, key, weight)
     });
@@ -172,10 +163,10 @@ pub extern "C" fn cot_fill(
 ) -> u64
     ensures { outcome result (host_lent table.new gauge.now lines.new) ≡ exported (λ m. fill_outcome m key picture.now ticket) (host_lent table.old gauge.now lines.old) }
 {
-    if gauge.len() != GAUGE_SIZE {
-        return Refusal::WrongSizes.into();
+    match gauge.as_array() {
+        Some(gauge) => number_of(cache::fill(table, gauge_at(gauge), lines, key, picture, ticket)),
+        None => Refusal::WrongSizes.into(),
     }
-    number_of(cache::fill(table, gauge_at(gauge), lines, key, picture, ticket))
 }
 
 // Halves every heat, total and ceiling downward and every slack upward.
@@ -187,23 +178,21 @@ pub extern "C" fn cot_age(table: &mut [u8], gauge: &mut [u8], lines: &[u8]) -> u
     number_of(hosted(table, gauge, lines, cache::age))
 }
 
+// A levelled sum on a host's memory.
+#[tactic(auto, unfolding(rules::specs::Calls::exported_sum, rules::specs::Calls::put_levels, rules::specs::Calls::gauge_test, rules::specs::Calls::number_test, rules::specs::Calls::verdict, rules::specs::Calls::unless, rules::specs::Calls::held, rules::specs::Answers::completion_number))]
+fn levelled_sum(table: &[u8], gauge: &[u8], lines: &[u8], sum: &mut [u8]) -> Result<(), Refusal>
+    ensures { outcome (completion_number result) sum.new ≡ exported_sum (host_lent table.now gauge.now lines.now) sum.old }
+{
+    let own = gauge_at(gauge.as_array().ok_or(Refusal::WrongSizes)?);
+    let sum: &mut [u8; NUMBER_SIZE] = sum.as_mut_array().ok_or(Refusal::WrongSizes)?;
+    put_u64(sum, 0, cache::levelled_sum(table, own, lines)?);
+    Ok(())
+}
+
 // Puts the sum, over all records, of the larger of heat and ceiling into 8 lent bytes.
 #[unsafe(no_mangle)]
-#[tactic(auto, unfolding(rules::specs::Calls::exported_sum, rules::specs::Calls::put_levels, rules::specs::Calls::gauge_test, rules::specs::Calls::number_test, rules::specs::Calls::verdict, rules::specs::Calls::unless, rules::specs::Calls::held))]
 pub extern "C" fn cot_levelled_sum(table: &[u8], gauge: &[u8], lines: &[u8], sum: &mut [u8]) -> u64
     ensures { outcome result sum.new ≡ exported_sum (host_lent table.now gauge.now lines.now) sum.old }
 {
-    if gauge.len() != GAUGE_SIZE {
-        return Refusal::WrongSizes.into();
-    }
-    if sum.len() != NUMBER_SIZE {
-        return Refusal::WrongSizes.into();
-    }
-    match cache::levelled_sum(table, gauge_at(gauge), lines) {
-        Ok(levels) => {
-            put_u64(sum, 0, levels);
-            DONE
-        }
-        Err(refusal) => refusal.into(),
-    }
+    completion_number(levelled_sum(table, gauge, lines, sum))
 }

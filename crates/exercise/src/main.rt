@@ -3,8 +3,9 @@
 // journal's reader, and a run whose rows have no room.
 #![tactic(auto)]
 
-use journal::{decode, first_two};
-use rules::{Answer, Entry, Gauge, Refusal, SERIAL_LIMIT};
+use journal::{ENTRY_SIZE, decode, first_two};
+use records::{RECORD_SIZE, put_record};
+use rules::{Answer, Entry, Gauge, Record, Refusal, SERIAL_LIMIT, State};
 use std::io::Write;
 use std::{fmt, io};
 
@@ -15,15 +16,15 @@ struct Told(Result<Answer, Refusal>);
 
 impl fmt::Display for Told {
     fn fmt<W: fmt::Write>(&self, f: &mut fmt::Formatter<W>) -> fmt::Result {
-        match self.0 {
-            Ok(Answer::Aged) => write!(f, "aged"),
-            Ok(Answer::Changed) => write!(f, "changed"),
-            Ok(Answer::Unknown) => write!(f, "unknown"),
-            Ok(Answer::Stored) => write!(f, "stored"),
-            Ok(Answer::Passed) => write!(f, "passed"),
-            Ok(Answer::Hit(line)) => write!(f, "hit {line}"),
-            Ok(Answer::Wanted(line, ticket)) => write!(f, "wanted {line} {ticket}"),
-            Err(cause) => write!(f, "refused {}", u64::from(cause)),
+        let answer = match self.0 {
+            Ok(answer) => answer,
+            Err(cause) => return write!(f, "{cause}"),
+        };
+        f.write_str(answer.word())?;
+        match answer {
+            Answer::Hit(line) => write!(f, " {line}"),
+            Answer::Wanted { line, ticket } => write!(f, " {line} {ticket}"),
+            _ => Ok(()),
         }
     }
 }
@@ -46,7 +47,7 @@ impl fmt::Display for Heard {
                 ),
             ) => write!(f, "fill {key} {picture} {ticket}"),
             Some(Ok(Entry::Age)) => write!(f, "age"),
-            Some(Err(cause)) => write!(f, "refused {}", u64::from(cause)),
+            Some(Err(cause)) => write!(f, "{cause}"),
             None => write!(f, "done"),
         }
     }
@@ -84,7 +85,7 @@ impl fmt::Display for Bytes<'_> {
 fn start(rt: &impl Print, table: &mut [u8], gauge: &mut Gauge, lines: &[u8]) -> io::Result<()> {
     match cache::fresh(table, gauge, lines) {
         Ok(()) => print!(rt; "fresh: done")?,
-        Err(cause) => print!(rt; "fresh: refused {}", u64::from(cause))?,
+        Err(cause) => print!(rt; "fresh: {cause}")?,
     }
     println!(rt; "; {}", Stands(*gauge))?;
     println!(rt; "table{}", Bytes(table))?;
@@ -101,11 +102,11 @@ fn show(rt: &impl Print, table: &[u8], gauge: Gauge, lines: &[u8], key: u64) -> 
 fn sum(rt: &impl Print, table: &[u8], gauge: Gauge, lines: &[u8]) -> io::Result<()> {
     match cache::levelled_sum(table, gauge, lines) {
         Ok(levels) => println!(rt; "levelled sum: {levels}"),
-        Err(cause) => println!(rt; "levelled sum: refused {}", u64::from(cause)),
+        Err(cause) => println!(rt; "levelled sum: {cause}"),
     }
 }
 
-// Three records and two lines.
+// The memory of a cache of three records and two lines, and the calls on it.
 #[derive(Drop)]
 struct Hub {
     table: [u8; 120],
@@ -208,6 +209,22 @@ fn spent(rt: &impl Print, hub: &mut Hub) -> io::Result<()> {
     hub.read(rt, 5, 0)
 }
 
+// The bytes of a record that is tracked, without a line.
+#[tactic(auto, unfolding(rules::specs::Bytes::record_count, rules::specs::States::state_number))]
+fn tracked(heat: u64) -> [u8; RECORD_SIZE] {
+    let mut bytes = [0; RECORD_SIZE];
+    put_record(
+        &mut bytes,
+        0,
+        Record {
+            heat,
+            state: State::Unlined.number(),
+            ..Record::default()
+        },
+    );
+    bytes
+}
+
 // Five records, the last free: heats 9, 1, 4 and 2. One record; none; and heats over the total.
 fn sums(rt: &impl Print) -> io::Result<()> {
     let gauge = Gauge {
@@ -215,22 +232,27 @@ fn sums(rt: &impl Print) -> io::Result<()> {
         ceiling: 3,
         serial: 0,
     };
-    let mut five = [0u8; 200];
-    five[8] = 9;
-    five[24] = 1;
-    five[48] = 1;
-    five[64] = 1;
-    five[88] = 4;
-    five[104] = 1;
-    five[128] = 2;
-    five[144] = 1;
-    sum(rt, &five, gauge, b"")?;
-    let mut one = [0u8; 40];
-    one[8] = 7;
-    one[24] = 1;
-    sum(rt, &one, gauge, b"")?;
+    let five = [
+        tracked(9),
+        tracked(1),
+        tracked(4),
+        tracked(2),
+        [0; RECORD_SIZE],
+    ];
+    let five = five.as_flattened();
+    sum(rt, five, gauge, b"")?;
+    sum(rt, &tracked(7), gauge, b"")?;
     sum(rt, b"", gauge, b"")?;
-    sum(rt, &five, Gauge { total: 8, ..gauge }, b"")
+    sum(rt, five, Gauge { total: 8, ..gauge }, b"")
+}
+
+// The bytes of a journal record without a picture and a ticket.
+fn entry(kind: u8, weight: u16, key: u64) -> [u8; ENTRY_SIZE] {
+    let mut bytes = [0; ENTRY_SIZE];
+    bytes[0] = kind;
+    bytes[2..4].copy_from_slice(&weight.to_le_bytes());
+    bytes[8..16].copy_from_slice(&key.to_le_bytes());
+    bytes
 }
 
 // Two records, by one reader.
@@ -246,23 +268,23 @@ fn pairs(rt: &impl Print, journal: &[u8]) -> io::Result<()> {
 
 // A read, a fill, an update, an aging, a record of unknown form and a short end.
 fn entries(rt: &impl Print) -> io::Result<()> {
-    let mut journal = [0u8; 470];
-    journal[0] = 1;
-    journal[2] = 3;
-    journal[3] = 1;
-    journal[8] = 5;
-    journal[88] = 3;
-    journal[96] = 7;
-    journal[104] = 9;
-    journal[168..176].copy_from_slice(&[8, 7, 6, 5, 4, 3, 2, 1]);
-    journal[176] = 2;
-    journal[178] = 2;
-    journal[184] = 6;
-    journal[264] = 4;
-    journal[352] = 9;
-    pairs(rt, &journal)?;
+    let mut fill = entry(3, 0, 7);
+    fill[16] = 9;
+    fill[80..].copy_from_slice(&0x0102_0304_0506_0708u64.to_le_bytes());
+    let journal = [
+        entry(1, 259, 5),
+        fill,
+        entry(2, 2, 6),
+        entry(4, 0, 0),
+        entry(9, 0, 0),
+        [0; ENTRY_SIZE],
+    ];
+    // The last of the six keeps 30 bytes. (The proof asks that the cut lies inside.)
+    let whole = journal.as_flattened();
+    let journal = &whole[..whole.len().min(470)];
+    pairs(rt, journal)?;
     for at in [176, 264, 352, 440, 470, 471] {
-        let decoded = decode(&journal, at);
+        let decoded = decode(journal, at);
         println!(rt; "{}; next {}", Heard(decoded.entry), decoded.next)?;
     }
     pairs(rt, &[9u8; 100])?;
@@ -294,19 +316,13 @@ fn ran(rt: &impl Print, journal: &[u8], numbered: u64, out: &mut [u8]) -> io::Re
 
 // Two reads and an aging. The first two rows have 13 bytes each, and a record is run while 92 are left. The last number is 2^64 − 1.
 fn runs(rt: &impl Print) -> io::Result<()> {
-    let mut journal = [0u8; 264];
-    journal[0] = 1;
-    journal[2] = 3;
-    journal[8] = 5;
-    journal[88] = 1;
-    journal[90] = 1;
-    journal[96] = 5;
-    journal[176] = 4;
-    ran(rt, &journal, 7, &mut [0u8; 91])?;
-    ran(rt, &journal, 7, &mut [0u8; 104])?;
-    ran(rt, &journal, 7, &mut [0u8; 105])?;
-    ran(rt, &journal, 7, &mut [0u8; 118])?;
-    ran(rt, &journal, u64::MAX - 1, &mut [0u8; 118])
+    let journal = [entry(1, 3, 5), entry(1, 1, 5), entry(4, 0, 0)];
+    let journal = journal.as_flattened();
+    ran(rt, journal, 7, &mut [0u8; 91])?;
+    ran(rt, journal, 7, &mut [0u8; 104])?;
+    ran(rt, journal, 7, &mut [0u8; 105])?;
+    ran(rt, journal, 7, &mut [0u8; 118])?;
+    ran(rt, journal, u64::MAX - 1, &mut [0u8; 118])
 }
 
 // A picture between its first and its last byte alike.

@@ -2,48 +2,57 @@
 #![tactic(auto)]
 
 ghost use Rattle.std.specs.Prelude.{◌≡◌, true, ◌≤◌, ◌<◌, ◌^◌};
-ghost use Rattle.rules.specs.Table.{is_unlined, is_lined, line_of, is_filled, is_zero, most_total, heated, cooled, aged_record, new_record, unlined, empty_state, on_empty_line, emptied, filled};
-ghost use Rattle.rules.specs.Calls.{most_records, most_weight};
+ghost use Rattle.rules.specs.Table.{is_free, is_unlined, is_lined, line_of, is_filled, is_zero, most_total, heated, cooled, aged_record, new_record, unlined, empty_state, on_empty_line, emptied, filled};
+ghost use Rattle.rules.specs.Calls.{most_records};
 ghost use Rattle.rules.specs.Answers.{answer_number};
 ghost use Rattle.rules.specs.Steps.{read_answer, level};
 
-use rules::{Answer, Record};
+use rules::{Answer, Record, State};
 
 // ---- what a record's state says
-// A state stays a number and is no enum: it is what the lent bytes hold, a damaged table may hold any, and whether a table is in order
-// is a bound on the number. These functions say what it means; a walk that reads it directly does so for its speed.
+
+// Whether it is free.
+#[tactic(auto, unfolding(rules::specs::Table::is_free, rules::specs::States::state_number))]
+pub fn is_free(r: Record) -> bool
+    ensures { result ≡ is_free r }
+{
+    State::from(r.state) == State::Free
+}
 
 // Whether it is tracked without a line.
-#[tactic(auto, unfolding(rules::specs::Table::is_unlined))]
+#[tactic(auto, unfolding(rules::specs::Table::is_unlined, rules::specs::States::state_number))]
 pub fn is_unlined(r: Record) -> bool
     ensures { result ≡ is_unlined r }
 {
-    r.state == 1
+    State::from(r.state) == State::Unlined
 }
 
 // Whether it is on a line.
-#[tactic(auto, unfolding(rules::specs::Table::is_lined))]
+#[tactic(auto, unfolding(rules::specs::Table::is_lined, rules::specs::States::state_number))]
 pub fn is_lined(r: Record) -> bool
     ensures { result ≡ is_lined r }
 {
-    1 < r.state
+    matches!(State::from(r.state), State::Empty(_) | State::Filled(_))
 }
 
 // Whether it is on a line that is filled.
-#[tactic(auto, unfolding(rules::specs::Table::is_filled))]
+#[tactic(auto, unfolding(rules::specs::Table::is_filled, rules::specs::Table::is_lined, rules::specs::States::state_number))]
 pub fn is_filled(r: Record) -> bool
     ensures { result ≡ is_filled r }
 {
-    is_lined(r) && r.state % 2 == 1
+    matches!(State::from(r.state), State::Filled(_))
 }
 
 // The line that it is on.
-#[tactic(auto, unfolding(rules::specs::Table::is_lined, rules::specs::Table::line_of))]
+#[tactic(auto, unfolding(rules::specs::Table::is_lined, rules::specs::Table::line_of, rules::specs::States::state_number))]
 pub fn line_of(r: Record) -> usize
     requires { is_lined r ≡ true }
     ensures { result ≡ line_of r }
 {
-    ((r.state - 2) / 2) as usize
+    match State::from(r.state) {
+        State::Empty(line) | State::Filled(line) => line as usize,
+        State::Free | State::Unlined => unreachable!(),
+    }
 }
 
 // Whether it is all zero, as a free one has to be.
@@ -58,12 +67,12 @@ pub fn is_zero(r: Record) -> bool
 
 // After a read.
 #[tactic(auto, unfolding(rules::specs::Table::heated))]
-pub fn heated(weight: u64, r: Record) -> Record
-    requires { (weight ≤ most_weight) × (r.heat ≤ most_total) }
+pub fn heated(weight: u16, r: Record) -> Record
+    requires { r.heat ≤ most_total }
     ensures { result ≡ heated weight r }
 {
     Record {
-        heat: r.heat + weight,
+        heat: r.heat + u64::from(weight),
         ..r
     }
 }
@@ -92,68 +101,67 @@ pub fn aged_record(r: Record) -> Record
 }
 
 // Of a key that is tracked anew.
-#[tactic(auto, unfolding(rules::specs::Table::new_record))]
-pub fn new_record(key: u64, ceiling: u64, weight: u64) -> Record
-    requires { (weight ≤ most_weight) × (ceiling ≤ most_total) }
+#[tactic(auto, unfolding(rules::specs::Table::new_record, rules::specs::States::state_number))]
+pub fn new_record(key: u64, ceiling: u64, weight: u16) -> Record
+    requires { ceiling ≤ most_total }
     ensures { result ≡ new_record key ceiling weight }
 {
     Record {
         key,
-        heat: ceiling + weight,
+        heat: ceiling + u64::from(weight),
         slack: ceiling,
-        state: 1, // tracked, without a line
+        state: State::Unlined.number(), // no line yet
         ticket: 0,
     }
 }
 
 // Off its line.
-#[tactic(auto, unfolding(rules::specs::Table::unlined))]
+#[tactic(auto, unfolding(rules::specs::Table::unlined, rules::specs::States::state_number))]
 pub fn unlined(r: Record) -> Record
     ensures { result ≡ unlined r }
 {
     Record {
-        state: 1,
+        state: State::Unlined.number(),
         ticket: 0, // as all records without a line
         ..r
     }
 }
 
 // On a line that it has just got, with the ticket that it got with it.
-#[tactic(auto, unfolding(rules::specs::Table::empty_state, rules::specs::Table::on_empty_line))]
+#[tactic(auto, unfolding(rules::specs::Table::empty_state, rules::specs::Table::on_empty_line, rules::specs::States::state_number))]
 pub fn on_empty_line(line: usize, ticket: u64, r: Record) -> Record
     requires { empty_state line < 2 ^ 64 }
     ensures { result ≡ on_empty_line line ticket r }
 {
     Record {
-        state: 2 + 2 * (line as u64),
+        state: State::Empty(line as u64).number(),
         ticket,
         ..r
     }
 }
 
 // With its line, if it is on one, empty.
-#[tactic(auto, unfolding(rules::specs::Table::line_of, rules::specs::Table::emptied, rules::specs::Table::empty_state))]
+#[tactic(auto, unfolding(rules::specs::Table::line_of, rules::specs::Table::emptied, rules::specs::Table::empty_state, rules::specs::States::state_number, rules::specs::Table::is_lined))]
 pub fn emptied(r: Record) -> Record
     ensures { result ≡ emptied r }
 {
-    if is_lined(r) {
-        Record {
-            state: 2 + 2 * (line_of(r) as u64),
+    match State::from(r.state) {
+        State::Filled(line) => Record {
+            state: State::Empty(line).number(),
             ..r
-        }
-    } else {
-        r
+        },
+        _ => r,
     }
 }
 
 // With its line filled.
-#[tactic(auto, unfolding(rules::specs::Table::filled, rules::specs::Table::filled_state))]
+#[tactic(auto, unfolding(rules::specs::Table::filled, rules::specs::Table::filled_state, rules::specs::States::state_number, rules::specs::Table::empty_state))]
 pub fn filled(r: Record) -> Record
     requires { (is_lined r ≡ true) × (line_of r < most_records) }
     ensures { result ≡ filled r }
 {
     Record {
-        state: 3 + 2 * (line_of(r) as u64),
+        state: State::Filled(line_of(r) as u64).number(),
         ..r
     }
 }
@@ -162,26 +170,27 @@ pub fn filled(r: Record) -> Record
 
 // Step 6: what a read answers. (An enum takes no ghost field and no model, so that its number fits 64 bits is a clause of each function
 // that answers.)
-#[tactic(auto, unfolding(rules::specs::Table::is_filled, rules::specs::Steps::read_answer, rules::specs::Answers::answer_number, rules::specs::Table::line_of))]
+#[tactic(auto, unfolding(rules::specs::Table::is_filled, rules::specs::Steps::read_answer, rules::specs::Answers::answer_number, rules::specs::Table::line_of, rules::specs::States::state_number, rules::specs::Table::is_lined))]
 pub fn read_answer(r: Record) -> Answer
     ensures value { result ≡ read_answer r }
     ensures result_bound { answer_number result < 2 ^ 64 }
 {
-    if is_filled(r) {
-        Answer::Hit(line_of(r) as u64)
-    } else if is_lined(r) {
-        Answer::Wanted(line_of(r) as u64, r.ticket)
-    } else {
-        Answer::Passed
+    match State::from(r.state) {
+        State::Filled(line) => Answer::Hit(line),
+        State::Empty(line) => Answer::Wanted {
+            line,
+            ticket: r.ticket,
+        },
+        State::Free | State::Unlined => Answer::Passed,
     }
 }
 
 // What it counts in the levelled sum.
-#[tactic(auto, unfolding(rules::specs::Steps::level, rules::specs::Table::is_free))]
+#[tactic(auto, unfolding(rules::specs::Steps::level))]
 pub fn level(ceiling: u64, r: Record) -> u64
     ensures { result ≡ level ceiling r }
 {
-    if r.state == 0 {
+    if is_free(r) {
         ceiling
     } else {
         r.heat.max(ceiling)

@@ -1,13 +1,14 @@
 // The journal: a decoder on a plain slice and a position, and a reader that holds the lent slice and its position.
 #![tactic(auto)]
 
-ghost use Rattle.std.specs.Prelude.{◌≡◌, ◌+◌, ◌≤◌, ◌<◌, length};
+ghost use Rattle.std.specs.Prelude.{◌≡◌, ◌==◌, ℕ, List, take, drop};
+ghost use Rattle.std.specs.List.{list_all};
 ghost use Rattle.rules.specs.Answers.{entry_said};
-ghost use Rattle.rules.specs.Journal.{entry_size, weight_at, zeros, gaps_zero, picture_zero, of_form, whole_entry, decoded, entry_at};
+ghost use Rattle.rules.specs.Journal.{entry_size, picture_place, whole_entry, decoded, entry_at};
 ghost use Rattle.rules.specs.Numbers.{said_at};
 ghost use Rattle.journal.specs.Kinds.{Decodes};
 
-use records::{LINE_SIZE, get_u64};
+use records::get_u64;
 use rules::{Decoded, Entry, Refusal};
 
 // The size of a journal record, in bytes.
@@ -22,9 +23,9 @@ const TICKET_AT: usize = 80;
 // ---- the forms
 
 // What a record's first byte says that it is.
-#[derive(Clone, Copy)]
+#[derive(Clone, Copy, Debug)]
 enum Kind {
-    Read = 1,
+    Read,
     Update,
     Fill,
     Age,
@@ -46,89 +47,44 @@ impl TryFrom<u8> for Kind {
     }
 }
 
-// Whether n bytes from a position are all 0. It reads them all, which is faster than to stop at one that is not.
-#[tactic(auto, unfolding(rules::specs::Journal::zeros))]
-fn zeros(bytes: &[u8], at: usize, n: usize) -> bool
-    requires { at + n ≤ length bytes.now }
-    ensures { result ≡ zeros bytes.now at n }
+// Whether bytes are all 0. It reads them all, which is faster than to stop at one that is not.
+fn zeros(bytes: &[u8]) -> bool
+    ensures { result ≡ list_all (λ b. b == 0) bytes.now }
 {
     let mut good = true;
-    for b in &bytes[at..at + n] {
+    for b in bytes {
         good &= *b == 0;
     }
     good
 }
 
-#[tactic(auto, unfolding(rules::specs::Journal::gaps_zero))]
-fn gaps_zero(bytes: &[u8], at: usize) -> bool
-    requires { at + entry_size ≤ length bytes.now }
-    ensures { result ≡ gaps_zero bytes.now at }
+// The entry of a whole record, whose picture has a place in the journal.
+#[tactic(auto, using(crate::proofs::Parts::parts), unfolding(rules::specs::Journal::whole_entry, rules::specs::Journal::of_form, rules::specs::Journal::weight_zero, rules::specs::Journal::key_zero, rules::specs::Journal::ticket_zero))]
+fn whole_entry(bytes: &[u8; ENTRY_SIZE], picture: usize) -> Result<Entry, Refusal>
+    ensures { (j : List ℕ) (at : ℕ) → bytes.now ≡ take entry_size (drop at j) → picture ≡ picture_place at → result ≡ whole_entry j at }
 {
-    zeros(bytes, at + 1, 1) && zeros(bytes, at + 4, 4)
-}
-
-// Whether a record's picture is all 0.
-#[tactic(auto, unfolding(rules::specs::Journal::picture_zero, rules::specs::Journal::picture_place))]
-fn no_picture(bytes: &[u8], at: usize) -> bool
-    requires { at + entry_size ≤ length bytes.now }
-    ensures { result ≡ picture_zero bytes.now at }
-{
-    zeros(bytes, at + PICTURE_AT, LINE_SIZE)
-}
-
-#[tactic(auto, unfolding(rules::specs::Journal::weight_at))]
-fn weight_at(bytes: &[u8], at: usize) -> u64
-    requires { at + entry_size ≤ length bytes.now }
-    ensures { result ≡ weight_at bytes.now at }
-{
-    u64::from(u16::from_le_bytes([bytes[at + 2], bytes[at + 3]]))
-}
-
-// An entry, if its record is of the form that its kind asks for.
-#[tactic(auto, unfolding(rules::specs::Journal::of_form))]
-fn of_form(good: bool, entry: Entry) -> Result<Entry, Refusal>
-    ensures { result ≡ of_form good entry }
-{
-    if good {
-        Ok(entry)
-    } else {
-        Err(Refusal::UnknownForm)
-    }
-}
-
-// A whole record that begins at a position.
-#[tactic(auto, unfolding(rules::specs::Journal::whole_entry, rules::specs::Journal::of_form, rules::specs::Journal::kind_at, rules::specs::Journal::weight_zero, rules::specs::Journal::key_zero, rules::specs::Journal::ticket_zero, rules::specs::Journal::key_at, rules::specs::Journal::picture_place, rules::specs::Journal::ticket_at))]
-fn whole_entry(bytes: &[u8], at: usize) -> Result<Entry, Refusal>
-    requires { at + entry_size ≤ length bytes.now }
-    ensures { result ≡ whole_entry bytes.now at }
-{
-    let kind = Kind::try_from(bytes[at])?;
-    let gaps = gaps_zero(bytes, at);
-    let weight = weight_at(bytes, at);
-    let key = get_u64(bytes, at + KEY_AT);
-    let ticket = get_u64(bytes, at + TICKET_AT);
+    let kind = Kind::try_from(bytes[0])?;
+    let gaps = zeros(&bytes[1..2]) && zeros(&bytes[4..KEY_AT]);
+    let weight = u64::from(u16::from_le_bytes([bytes[2], bytes[3]]));
+    let key = get_u64(bytes, KEY_AT);
+    let ticket = get_u64(bytes, TICKET_AT);
     // Only a fill may have a ticket or a picture.
-    let bare = gaps && ticket == 0;
+    let bare = gaps && ticket == 0 && zeros(&bytes[PICTURE_AT..TICKET_AT]);
     match kind {
-        Kind::Read => of_form(bare && no_picture(bytes, at), Entry::Read { key, weight }),
-        Kind::Update => of_form(bare && no_picture(bytes, at), Entry::Update { key, weight }),
-        Kind::Fill => of_form(
-            gaps && weight == 0,
-            Entry::Fill {
-                key,
-                picture: at + PICTURE_AT,
-                ticket,
-            },
-        ),
-        Kind::Age => of_form(
-            bare && weight == 0 && no_picture(bytes, at) && key == 0,
-            Entry::Age,
-        ),
+        Kind::Read if bare => Ok(Entry::Read { key, weight }),
+        Kind::Update if bare => Ok(Entry::Update { key, weight }),
+        Kind::Fill if gaps && weight == 0 => Ok(Entry::Fill {
+            key,
+            picture,
+            ticket,
+        }),
+        Kind::Age if bare && weight == 0 && key == 0 => Ok(Entry::Age),
+        _ => Err(Refusal::UnknownForm),
     }
 }
 
 // The record at a position and the position after it. One of unknown form is passed over; a short end and an end are stayed at.
-#[tactic(auto, using(crate::proofs::Said::said_of), unfolding(rules::specs::Journal::entry_at, rules::specs::Journal::decoded))]
+#[tactic(auto, using(crate::proofs::Said::said_of), unfolding(rules::specs::Journal::entry_at, rules::specs::Journal::picture_place, rules::specs::Journal::decoded))]
 pub fn decode(bytes: &[u8], at: usize) -> Decoded
     ensures { (result ≡ entry_at bytes.now at) × (entry_said result.entry ≡ said_at bytes.now at) }
 {
@@ -138,14 +94,14 @@ pub fn decode(bytes: &[u8], at: usize) -> Decoded
             next: at,
         };
     }
-    if bytes.len() - at < ENTRY_SIZE {
+    let Some(record) = bytes[at..].first_chunk() else {
         return Decoded {
             entry: Some(Err(Refusal::ShortEnd)),
             next: at,
         };
-    }
+    };
     Decoded {
-        entry: Some(whole_entry(bytes, at)),
+        entry: Some(whole_entry(record, at + PICTURE_AT)),
         next: at + ENTRY_SIZE,
     }
 }
@@ -153,7 +109,7 @@ pub fn decode(bytes: &[u8], at: usize) -> Decoded
 // ---- the reader
 
 // A lent journal and the position that is read next.
-#[derive(Clone, Copy)]
+#[derive(Clone, Copy, Debug)]
 pub struct Reader<'a> {
     pub bytes: &'a [u8],
     pub at: usize,
@@ -187,7 +143,7 @@ impl Iterator for Reader<'_> {
 }
 
 // The first two records of a journal, and the position after them.
-#[derive(Clone, Copy)]
+#[derive(Clone, Copy, Debug)]
 pub struct Pair {
     pub first: Option<Result<Entry, Refusal>>,
     pub second: Option<Result<Entry, Refusal>>,

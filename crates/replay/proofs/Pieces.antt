@@ -6,9 +6,11 @@ use mathlib.Core.Path.{◌≡◌, refl, sym, ◌∙◌}
 use native.Mathlib.Omega.{arith}
 use lib.ListN.{length, take, length-append, length-take}
 use Rattle.rules.specs.Table.{Memory}
-use Rattle.rules.specs.Journal.{entry_size, entry_count, run_for, printed_all, going_on, start_run}
+use Rattle.rules.specs.Journal.{Run, entry_size, entry_count, run_for, printed_all, going_on, start_run}
 use Rattle.rules.proofs.Pieces.{pieces_join}
-use Rattle.rows.proofs.Written.{puts_front, printed_join}
+use Rattle.rows.proofs.Written.{written_front, printed_join}
+use Rattle.runner.specs.declared.Progress.{Progress}
+use Rattle.runner.specs.Progress.{Runs}
 use Rattle.runner.proofs.Room.{numbered_most}
 use Rattle.replay.specs.declared.Ran.{Ran}
 use Rattle.replay.specs.Pieces.{piece_records, piece_size, most_pieces, read_into, RunsPiece, RunsAll}
@@ -17,6 +19,10 @@ use Rattle.replay.specs.Pieces.{piece_records, piece_size, most_pieces, read_int
 pub few_entries : (got : ℕ) (piece : List ℕ) → length piece ≤ piece_size → entry_count (take got piece) ≤ piece_records
 unfolding entry_count
 few_entries got piece short = simp length-take (omega arith)
+
+-- the rows of a run are what the output begins with
+rows_front : {run : Run} {out₀ out : List ℕ} {q : Progress} {m : Memory} → Runs run out₀ q m out → take q.end out ≡ printed_all run.rows
+rows_front r = rw (r.end, r.rows) (written_front _ _)
 
 module _ {m m' : Memory} {piece out₀ out : List ℕ} {t : Ran} where
   pub piece_numbers : {numbered : ℕ} → length piece ≤ piece_size → RunsPiece (going_on m numbered) piece out₀ t m' out →
@@ -37,7 +43,7 @@ module _ {m m' : Memory} {piece out₀ out : List ℕ} {t : Ran} where
         full = refl;
         memory = ran.runs.memory;
         numbered = ran.runs.numbered;
-        rows = sym (puts_front ran.runs.rows);
+        rows = sym (rows_front ran.runs);
       }
 
 -- full pieces are whole records
@@ -59,7 +65,7 @@ next_piece m {piece = piece} {next = next} {t = t} {u = u} {pieces = pieces} who
       full = long;
       memory = last.memory ∙ sym all.memory;
       numbered = last.numbered ∙ sym all.numbered;
-      rows = rw (all.rows, printed_join, puts_front last.rows);
+      rows = rw (all.rows, printed_join, rows_front last);
     }
 
 -- no input has so many bytes

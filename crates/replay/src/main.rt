@@ -7,7 +7,7 @@ ghost use Rattle.std.specs.Prelude.{◌≡◌, ◌+◌, ◌<◌, ◌^◌, length
 ghost use Rattle.rules.specs.Table.{fresh_gauge};
 ghost use Rattle.rules.specs.Calls.{lent, fresh_outcome};
 ghost use Rattle.rules.specs.Journal.{going_on, start_run};
-ghost use Rattle.replay.specs.Pieces.{piece_records, piece_size, rows_size, RunsPiece, Replays};
+ghost use Rattle.replay.specs.Pieces.{piece_records, piece_size, RunsPiece, Replays};
 
 use journal::ENTRY_SIZE;
 use records::{LINE_SIZE, RECORD_SIZE};
@@ -32,7 +32,7 @@ const ROWS_SIZE: usize = ROW_SIZE * PIECE_RECORDS;
 
 // What a piece leaves: how far its run came, how many bytes were read, and whether its rows were written. (No enum: the count and the
 // run are there whether or not the rows were written.)
-#[derive(Clone, Copy)]
+#[derive(Clone, Copy, Debug)]
 struct Ran {
     progress: Progress,
     got: usize,
@@ -97,6 +97,7 @@ impl Store {
         ensures { Replays (start_run (fresh_outcome (lent self.old.table fresh_gauge self.old.lines)).after) self.new.piece result (lent self.new.table result.progress.gauge self.new.lines) self.new.out }
     {
         let mut gauge = Gauge::default();
+        // Three records and a line are good sizes, so this is not refused.
         let _ = cache::fresh(&mut self.table, &mut gauge, &self.lines);
         self.run_all(gauge)
     }

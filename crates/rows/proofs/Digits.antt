@@ -1,7 +1,8 @@
 -- A number's digits, with the last one at the end of those in front of it. Assumes nothing.
 use Rattle.std.proofs.Common.{◌≡◌, ℕ, zero, suc, ◌+◌, ◌-◌, ◌/◌, ◌%◌, ◌≤◌, ◌<◌, [], ◌∷◌, ◌++◌, refl, arith, rules}
 use Rattle.rules.specs.Journal.{digits}
-use Rattle.rows.proofs.Written.{joins, written_none, written_one, written_length}
+use Rattle.rows.proofs.Sizes.{joins}
+use Rattle.rows.proofs.Written.{written_none}
 
 pub no_digits : (n : ℕ) → digits 0 n ≡ []
 unfolding digits
@@ -18,4 +19,4 @@ more_digits zero n some many = absurd (omega arith)
 more_digits (suc most) n some many = grind arith
 
 -- what a number's digits are, and what writing them leaves
-pub ruleset writing = (joins, no_digits, one_digit, more_digits, written_none, written_one, written_length)
+pub ruleset writing = (joins, no_digits, one_digit, more_digits, written_none)

@@ -2,7 +2,7 @@
 -- at most 20, by induction, and no word is longer than that of a refusal. Assumes nothing.
 use Prim.Native.Nat.{ℕ, zero, suc, ◌/◌, ◌≤◌}
 use mathlib.Core.Path.{◌≡◌, refl}
-use mathlib.Core.List.{◌++◌}
+use mathlib.Core.List.{◌++◌, append_assoc}
 use native.Mathlib.Omega.{arith}
 use lib.ListN.{length, length-append}
 use Rattle.rules.specs.Table.{Memory}
@@ -11,13 +11,14 @@ use Rattle.rules.specs.Answers.{Reply}
 use Rattle.rules.specs.Steps.{Outcome}
 use Rattle.rules.specs.Journal.{digits, decimal, refused_word, word_of, printed, row_of}
 use Rattle.rows.specs.Written.{row_size}
+use Rattle.rows.proofs.Written.{written_more}
 
-digits_few : (most n : ℕ) → length (digits most n) ≤ most
+pub digits_few : (most n : ℕ) → length (digits most n) ≤ most
 unfolding digits
 digits_few zero n = omega arith
 digits_few (suc most) n = grind (arith, length-append, digits_few most (n / 10))
 
-word_short : (answer : Reply) → length (word_of answer) ≤ 28
+pub word_short : (answer : Reply) → length (word_of answer) ≤ 28
 unfolding word_of decimal
 word_short answer = grind (arith, length-append, digits_few 20)
 
@@ -31,3 +32,6 @@ twenty = 10000000000000000000
 pub row_longest : length (printed (record { number = twenty; word = refused_word ++ decimal twenty; total = twenty; ceiling = twenty })) ≡ row_size
 unfolding printed decimal digits word_of
 row_longest = refl
+
+-- what joins what was written after it, and how many bytes that are
+pub ruleset joins = (written_more, length-append, append_assoc, digits_few, word_short)

@@ -1,93 +1,86 @@
 // The rows that a run prints: number, word, total and ceiling, in decimal.
 #![tactic(auto)]
 
-ghost use Rattle.std.specs.Prelude.{◌∷◌, ◌+◌, ◌≤◌, length};
+ghost use Rattle.std.specs.Prelude.{◌∷◌, length};
 ghost use Rattle.rules.specs.Journal.{digits, decimal, word_of, printed};
-ghost use Rattle.rows.specs.Written.{row_size, Puts};
+ghost use Rattle.rows.specs.Written.{row_size, HasRoom, Puts};
 
 use rules::{Answer, Gauge, Refusal};
 
 // The most bytes that a row takes.
 pub const ROW_SIZE: usize = 92;
 
-// Writes bytes from a place on, and gives the place after them.
-#[tactic(auto, unfolding(crate::specs::Written::written))]
-fn put_bytes(out: &mut [u8], at: usize, bytes: &[u8]) -> usize
-    requires { at + length bytes.now ≤ length out.old }
-    ensures { Puts out.old at bytes.now result out.new }
-{
-    let end = at + bytes.len();
-    out[at..end].copy_from_slice(bytes);
-    end
+// Rows in lent bytes: where they lie, and where the next byte goes.
+#[derive(Drop)]
+pub struct Rows<'a> {
+    pub out: &'a mut [u8],
+    pub end: usize,
 }
 
-// Writes the last digits of a number, at most so many. (By hand: `write!` says what it wrote only where it gives `Ok`, and nothing says
-// when it does, while a row is always written.)
-#[tactic(auto, using(crate::proofs::Digits::writing))]
-fn put_digits(out: &mut [u8], at: usize, most: usize, n: u64) -> usize
-    requires { at + most ≤ length out.old }
-    ensures { Puts out.old at (digits most n) result out.new × (result ≤ at + most) }
-{
-    if most == 0 {
-        return at;
+impl Rows<'_> {
+    // Writes bytes.
+    #[tactic(auto, unfolding(crate::specs::Written::written))]
+    fn put(&mut self, bytes: &[u8])
+        requires { HasRoom self.old (length bytes.now) }
+        ensures { Puts self.old bytes.now self.new }
+    {
+        let end = self.end + bytes.len();
+        self.out[self.end..end].copy_from_slice(bytes);
+        self.end = end;
     }
-    if n < 10 {
-        out[at] = (48 + n) as u8;
-        return at + 1;
-    }
-    let end = put_digits(out, at, most - 1, n / 10);
-    out[end] = (48 + n % 10) as u8;
-    end + 1
-}
 
-// Writes an answer's word, and the number of a refusal.
-#[tactic(auto, unfolding(rules::specs::Journal::word_of, rules::specs::Journal::decimal), using(crate::proofs::Written::joins))]
-fn put_word(out: &mut [u8], at: usize, reply: Result<Answer, Refusal>) -> usize
-    requires { at + 28 ≤ length out.old }
-    ensures { Puts out.old at (word_of reply) result out.new × (result ≤ at + 28) }
-{
-    let word = match reply {
-        Ok(Answer::Aged) => "aged",
-        Ok(Answer::Changed) => "changed",
-        Ok(Answer::Unknown) => "unknown",
-        Ok(Answer::Stored) => "stored",
-        Ok(Answer::Passed) => "passed",
-        Ok(Answer::Hit(_)) => "hit",
-        Ok(Answer::Wanted(_, _)) => "wanted",
-        Err(cause) => {
-            let end = put_bytes(out, at, b"refused-");
-            return put_digits(out, end, 20, cause.into());
+    // Writes the last digits of a number, at most so many. (By hand: `write!` says what it wrote only where it gives `Ok`, and nothing
+    // says when it does, while a row is always written.)
+    #[tactic(auto, using(crate::proofs::Digits::writing))]
+    fn put_digits(&mut self, most: usize, n: u64)
+        requires { HasRoom self.old most }
+        ensures { Puts self.old (digits most n) self.new }
+    {
+        if most == 0 {
+            return;
         }
-    };
-    put_bytes(out, at, word.as_bytes())
-}
+        if 10 <= n {
+            self.put_digits(most - 1, n / 10);
+        }
+        self.put(&[b'0' + (n % 10) as u8]);
+    }
 
-// Writes a space and a number.
-#[tactic(auto, unfolding(rules::specs::Journal::decimal), using(crate::proofs::Written::joins))]
-fn put_number(out: &mut [u8], at: usize, n: u64) -> usize
-    requires { at + 21 ≤ length out.old }
-    ensures { Puts out.old at (32 ∷ decimal n) result out.new × (result ≤ at + 21) }
-{
-    let end = put_bytes(out, at, b" ");
-    put_digits(out, end, 20, n)
-}
+    // Writes an answer's word, and the number of a refusal.
+    #[tactic(auto, unfolding(rules::specs::Journal::word_of, rules::specs::Journal::decimal), using(crate::proofs::Sizes::joins))]
+    fn put_word(&mut self, reply: Result<Answer, Refusal>)
+        requires { HasRoom self.old 28 }
+        ensures { Puts self.old (word_of reply) self.new }
+    {
+        match reply {
+            Ok(answer) => self.put(answer.word().as_bytes()),
+            Err(cause) => {
+                self.put(b"refused-");
+                self.put_digits(20, cause.into());
+            }
+        }
+    }
 
-// Writes a row: number, word, total, ceiling.
-#[tactic(auto, unfolding(rules::specs::Journal::printed, rules::specs::Journal::decimal), using(crate::proofs::Written::joins))]
-pub fn put_row(
-    out: &mut [u8],
-    at: usize,
-    number: u64,
-    reply: Result<Answer, Refusal>,
-    gauge: Gauge,
-) -> usize
-    requires { at + row_size ≤ length out.old }
-    ensures { Puts out.old at (printed (record { number = number; word = word_of reply; total = gauge.total; ceiling = gauge.ceiling })) result out.new }
-{
-    let a = put_digits(out, at, 20, number);
-    let b = put_bytes(out, a, b" ");
-    let c = put_word(out, b, reply);
-    let d = put_number(out, c, gauge.total);
-    let e = put_number(out, d, gauge.ceiling);
-    put_bytes(out, e, b"\n")
+    // Writes a space and a number.
+    #[tactic(auto, unfolding(rules::specs::Journal::decimal), using(crate::proofs::Sizes::joins))]
+    fn put_number(&mut self, n: u64)
+        requires { HasRoom self.old 21 }
+        ensures { Puts self.old (32 ∷ decimal n) self.new }
+    {
+        self.put(b" ");
+        self.put_digits(20, n);
+    }
+
+    // Writes a row: number, word, total, ceiling.
+    #[tactic(auto, unfolding(rules::specs::Journal::printed, rules::specs::Journal::decimal), using(crate::proofs::Sizes::joins))]
+    pub fn put_row(&mut self, number: u64, reply: Result<Answer, Refusal>, gauge: Gauge)
+        requires { HasRoom self.old row_size }
+        ensures { Puts self.old (printed (record { number = number; word = word_of reply; total = gauge.total; ceiling = gauge.ceiling })) self.new }
+    {
+        self.put_digits(20, number);
+        self.put(b" ");
+        self.put_word(reply);
+        self.put_number(gauge.total);
+        self.put_number(gauge.ceiling);
+        self.put(b"\n");
+    }
 }

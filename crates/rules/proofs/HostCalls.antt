@@ -17,7 +17,7 @@ use Rattle.rules.specs.Bytes.{number_size, get64, put64, gauge_size, gauge_at}
 use Rattle.rules.specs.Table.{Memory, fresh_gauge, fresh_memory}
 use Rattle.rules.specs.Answers.{Reply, number_of, completion_number}
 use Rattle.rules.specs.Steps.{Outcome, outcome, levelled_sum}
-use Rattle.rules.specs.Calls.{must, sizes_good, order_good, verdict, unless, sizes_test, order_test, plain_verdict, fresh_outcome, levelled_outcome, HostRead, hosted_read, exported_read, HostMemory, host_lent, held, stored, gauge_test, exported_fresh, number_test, put_levels, exported_sum}
+use Rattle.rules.specs.Calls.{must, sizes_good, order_good, verdict, unless, sizes_test, order_test, plain_verdict, fresh_outcome, levelled_outcome, HostRead, hosted_read, exported_read, HostMemory, host_lent, held, stored, gauge_test, hosted, exported_fresh, number_test, put_levels, exported_sum}
 use Rattle.rules.proofs.Words.{IsBytes}
 use Rattle.rules.proofs.Places.{gauge_zeroed, gauge_kept}
 
@@ -36,7 +36,7 @@ module _ (h : HostMemory) where
   fresh_told = unless (verdict (gauge_test h ∷ sizes_test (held h) ∷ [])) (λ cause. outcome (number cause) h) (outcome 0 zeroed)
 
   pub host_fresh : IsBytes h.gauge → exported_fresh h ≡ fresh_told
-  unfolding exported_fresh fresh_outcome verdict gauge_test sizes_test unless completion_number number held stored fresh_memory
+  unfolding exported_fresh hosted fresh_outcome verdict gauge_test sizes_test unless completion_number number held stored fresh_memory
   host_fresh bytes = go sized good refl refl
     where
       go : (a b : Bool) → sized ≡ a → good ≡ b → exported_fresh h ≡ fresh_told
@@ -47,7 +47,7 @@ module _ (h : HostMemory) where
   -- told 0, a host holds what fresh leaves
   pub host_starts : (exported_fresh h).answer ≡ 0 →
       ((fresh_outcome (held h)).answer ≡ Ok tt) × (held (exported_fresh h).after ≡ (fresh_outcome (held h)).after)
-  unfolding exported_fresh fresh_outcome verdict gauge_test sizes_test unless completion_number number held stored fresh_memory fresh_gauge gauge_at get64
+  unfolding exported_fresh hosted fresh_outcome verdict gauge_test sizes_test unless completion_number number held stored fresh_memory fresh_gauge gauge_at get64
   host_starts told = go sized good refl refl
     where
       go : (a b : Bool) → sized ≡ a → good ≡ b →

@@ -9,7 +9,7 @@ use native.Mathlib.Decide.{dec_lt, ℕ_discrete}
 use native.Mathlib.Omega.{arith}
 use lib.ListN.{length, get_or, take, drop, replicate, length-append, length-drop, take-append-drop, drop_of_length-le}
 use lib.Dec.{lit<}
-use lib.Seq.{get_or-drop, take_at, drop_at, length-take-le, take-append-le, drop-append-le, drop-append-add, drop-drop}
+use lib.Seq.{get_or-drop, get_or-take, take_at, drop_at, length-take-le, take-append-le, drop-append-le, drop-append-add, drop-drop}
 use Rattle.rules.specs.declared.Record.{Record}
 use Rattle.rules.specs.declared.Gauge.{Gauge}
 use Rattle.rules.specs.Bytes.{get64, put64, record_size, heat_place, slack_place, state_place, ticket_place, ceiling_place, serial_place, record_at, put_record, record_count, line_size, line_at, put_line, line_count, gauge_size, gauge_at, put_gauge}
@@ -169,6 +169,34 @@ unfolding record_at
 record_part t m i =
     let e : record_size * (m + i) ≡ record_size * m + record_size * i = omega arith in
     rw e (simp (get_part, add_assoc))
+
+get_front : (t : List ℕ) (n at : ℕ) → at + 8 ≤ n → get64 (take n t) at ≡ get64 t at
+unfolding get64
+get_front t n at room =
+    let same : (k : ℕ) → k < 8 → get_or (take n t) (at + k) 0 ≡ get_or t (at + k) 0 = λ k small. get_or-take n t (at + k) 0 (omega arith) in
+    rw (
+      rw add-zero at (same 0 (omega arith)),
+      same 1 (omega arith),
+      same 2 (omega arith),
+      same 3 (omega arith),
+      same 4 (omega arith),
+      same 5 (omega arith),
+      same 6 (omega arith),
+      same 7 (omega arith),
+    )
+
+pub record_front : (t : List ℕ) (m i : ℕ) → i < m → record_at (take (record_size * m) t) i ≡ record_at t i
+unfolding record_at
+record_front t m i below =
+    let same : (x : ℕ) → x ≤ ticket_place → get64 (take (record_size * m) t) (record_size * i + x) ≡ get64 t (record_size * i + x) =
+    λ x small. get_front t (record_size * m) (record_size * i + x) (omega arith) in
+    rw (
+      rw add-zero at (same 0 (omega arith)),
+      same heat_place (omega arith),
+      same slack_place (omega arith),
+      same state_place (omega arith),
+      same ticket_place (omega arith),
+    )
 
 -- ---- lines
 -- a line lies inside the lines, and parts them

@@ -90,7 +90,7 @@ unless (Ok u) refused given = given
 unless (Err cause) refused given = refused cause
 
 -- | Returned: the number. Left as it was: all lent memory
-abbrev pub leaving : {Lent : Type 0} → Lent → Refusal → Outcome Reply Lent
+abbrev pub leaving : {Given Lent : Type 0} → Lent → Refusal → Outcome (Result Given Refusal) Lent
 leaving lent cause = outcome (Err cause) lent
 
 -- ---- the calls
@@ -126,7 +126,7 @@ fill_outcome m key picture ticket = unless (fill_verdict m picture) (leaving m) 
 -- | Fresh gives only 1. .. Fresh .. answers done.
 unfoldable pub fresh_outcome : Memory → Outcome Completion Memory
 fresh_outcome m =
-    unless (verdict (sizes_test m ∷ [])) (λ cause. outcome (Err cause) m) (outcome (Ok tt) (fresh_memory m))
+    unless (verdict (sizes_test m ∷ [])) (leaving m) (outcome (Ok tt) (fresh_memory m))
 
 -- | Show gives no numbers: where cause 1 or 3 holds, it returns the stand-in too.
 unfoldable pub show_line : Memory → ℕ → Option ℕ
@@ -175,7 +175,8 @@ stored h m = record { table = m.table; gauge = put_gauge h.gauge m.gauge; lines 
 unfoldable pub gauge_test : HostMemory → Test
 gauge_test h = must (eqb (length h.gauge) gauge_size) WrongSizes
 
-unfoldable pub hosted : (Memory → Outcome Reply Memory) → HostMemory → Outcome Reply HostMemory
+unfoldable pub hosted :
+    {Given : Type 0} → (Memory → Outcome (Result Given Refusal) Memory) → HostMemory → Outcome (Result Given Refusal) HostMemory
 hosted call h =
     unless (verdict (gauge_test h ∷ [])) (leaving h)
     (outcome (call (held h)).answer (stored h (call (held h)).after))
@@ -220,9 +221,7 @@ exported_read call h = outcome (number_of (hosted_read call h).answer) (hosted_r
 -- ---- fresh and the levelled sum by a C host
 -- | Fresh, .. answers done. (The number that a host is told for it: Answers.antt.)
 unfoldable pub exported_fresh : HostMemory → Outcome ℕ HostMemory
-exported_fresh h =
-    unless (verdict (gauge_test h ∷ [])) (λ cause. outcome (number cause) h)
-    (outcome (completion_number (fresh_outcome (held h)).answer) (stored h (fresh_outcome (held h)).after))
+exported_fresh h = outcome (completion_number (hosted fresh_outcome h).answer) (hosted fresh_outcome h).after
 
 unfoldable pub put_levels : List ℕ → Result ℕ Refusal → Outcome ℕ (List ℕ)
 put_levels sum (Ok n) = outcome done_number (put64 sum 0 n)

@@ -2,6 +2,7 @@
 pub mod Bytes
 pub mod Refusals
 pub mod Pass
+pub mod States
 pub mod Table
 pub mod Answers
 pub mod Steps

@@ -1,9 +1,16 @@
-// The declared types of the pattern cache and the numbers of document 01 that code uses. What they mean, and what every call does with
-// them, is in specs/.
+// The declared types of the pattern cache, with what they say of themselves, and the numbers of document 01 that code uses. What they
+// mean, and what every call does with them, is in specs/.
 #![tactic(auto)]
 
-ghost use Rattle.std.specs.Prelude.{◌≡◌};
+ghost use Rattle.std.specs.Prelude.{◌≡◌, ◌<◌, ◌^◌, [], ◌∷◌, ◌++◌, Some, Ok, codes};
+ghost use Rattle.std.specs.Fmt.{decimal};
 ghost use Rattle.rules.specs.Refusals.{number};
+ghost use Rattle.rules.specs.States.{state_number};
+ghost use Rattle.rules.specs.Journal.{word_of};
+ghost use Rattle.rules.specs.Calls.{must, verdict};
+
+use std::error::Error;
+use std::fmt;
 
 // L: the most that the total may be.
 pub const MOST_TOTAL: u64 = 4294967295;
@@ -37,8 +44,26 @@ impl From<Refusal> for u64 {
     }
 }
 
+impl fmt::Display for Refusal {
+    ghost output = { λ cause. Some (codes "refused " ++ decimal (number cause)) };
+
+    fn fmt<W: fmt::Write>(&self, f: &mut fmt::Formatter<W>) -> fmt::Result {
+        write!(f, "refused {}", u64::from(*self))
+    }
+}
+
+impl Error for Refusal {}
+
+// One test: refused with a cause, unless it is good.
+#[tactic(auto, unfolding(crate::specs::Calls::verdict))]
+pub fn must(good: bool, cause: Refusal) -> Result<(), Refusal>
+    ensures { result ≡ verdict (must good cause ∷ []) }
+{
+    if good { Ok(()) } else { Err(cause) }
+}
+
 // One of the table's records: a class that is tracked, or a free place.
-#[derive(Clone, Copy, PartialEq, Eq, Default)]
+#[derive(Clone, Copy, Debug, PartialEq, Eq, Default)]
 pub struct Record {
     // The class.
     pub key: u64,
@@ -52,8 +77,50 @@ pub struct Record {
     pub ticket: u64,
 }
 
+// What a record's state says. A record holds its number, as the lent bytes do.
+#[derive(Clone, Copy, Debug, PartialEq, Eq)]
+pub enum State {
+    Free,
+    // Tracked without a line.
+    Unlined,
+    // On a line that is empty.
+    Empty(u64),
+    // On a line that is filled.
+    Filled(u64),
+}
+
+impl From<u64> for State {
+    ghost from_gives = { λ n state. n ≡ state_number state };
+
+    #[tactic(auto, unfolding(crate::specs::States::state_number))]
+    fn from(n: u64) -> State {
+        match n {
+            0 => State::Free,
+            1 => State::Unlined,
+            _ if n % 2 == 0 => State::Empty((n - 2) / 2),
+            _ => State::Filled((n - 3) / 2),
+        }
+    }
+}
+
+impl State {
+    // Its number. (No From: that of a very large line does not fit.)
+    #[tactic(auto, unfolding(crate::specs::States::state_number))]
+    pub fn number(self) -> u64
+        requires { state_number self < 2 ^ 64 }
+        ensures { result ≡ state_number self }
+    {
+        match self {
+            State::Free => 0,
+            State::Unlined => 1,
+            State::Empty(line) => 2 + 2 * line,
+            State::Filled(line) => 3 + 2 * line,
+        }
+    }
+}
+
 // The three numbers that go with a table.
-#[derive(Clone, Copy, PartialEq, Eq, Default)]
+#[derive(Clone, Copy, Debug, PartialEq, Eq, Default)]
 pub struct Gauge {
     // All weight read so far, halved by each aging.
     pub total: u64,
@@ -63,7 +130,8 @@ pub struct Gauge {
     pub serial: u64,
 }
 
-// A key, looked up. (No Option of a line: a class without a record and one without a line are told apart.)
+// A key, looked up, by the three cases of the definition. (No Option of a line: a class without a record and one without a line are
+// told apart.)
 #[derive(Clone, Copy, Debug, PartialEq, Eq)]
 pub enum Lookup {
     // No record.
@@ -88,8 +156,26 @@ pub enum Answer {
     Stored,
     Passed,
     Hit(u64),
-    // The line, and the ticket that its fill has to bring.
-    Wanted(u64, u64),
+    // With the ticket that its fill has to bring.
+    Wanted { line: u64, ticket: u64 },
+}
+
+impl Answer {
+    // Its word, without a number.
+    #[tactic(auto, unfolding(crate::specs::Journal::word_of))]
+    pub fn word(self) -> &'static str
+        ensures { result.now ≡ word_of (Ok self) }
+    {
+        match self {
+            Answer::Aged => "aged",
+            Answer::Changed => "changed",
+            Answer::Unknown => "unknown",
+            Answer::Stored => "stored",
+            Answer::Passed => "passed",
+            Answer::Hit(_) => "hit",
+            Answer::Wanted { .. } => "wanted",
+        }
+    }
 }
 
 // One journal record, decoded. A fill's picture is given by its place in the journal.
@@ -112,7 +198,7 @@ pub enum Entry {
 }
 
 // What reading the journal at a position gives: the entry, if there is one left and it is not refused, and the position after it.
-#[derive(Clone, Copy)]
+#[derive(Clone, Copy, Debug, PartialEq, Eq)]
 pub struct Decoded {
     pub entry: Option<Result<Entry, Refusal>>,
     pub next: usize,
@@ -121,7 +207,7 @@ pub struct Decoded {
 // ---- what a call is lent
 
 // To look at.
-#[derive(Clone, Copy)]
+#[derive(Clone, Copy, Debug)]
 pub struct View<'a> {
     pub table: &'a [u8],
     pub gauge: Gauge,

@@ -1,7 +1,7 @@
 -- A run is whole where the output has a row's room for each record and the numbers fit: a record prints at most one row, so n records
 -- take at most n rows and n numbers, by induction. Assumes nothing.
 use Prim.Native.Nat.{ℕ, zero, suc, ◌+◌, ◌*◌, ◌≤◌, ◌<◌, ◌^◌}
-use mathlib.Core.Bool.{Bool, true, false}
+use mathlib.Core.Bool.{true}
 use mathlib.Core.List.{List, []}
 use mathlib.Core.Path.{◌≡◌}
 use native.Mathlib.Omega.{arith}
@@ -11,8 +11,6 @@ use Rattle.std.specs.Prelude.{Option, Some, None, Result}
 use Rattle.rules.specs.declared.Entry.{Entry}
 use Rattle.rules.specs.declared.Refusal.{Refusal}
 use Rattle.rules.specs.declared.Decoded.{Decoded}
-use Rattle.rules.specs.Table.{Memory}
-use Rattle.rules.specs.Steps.{Outcome}
 use Rattle.rules.specs.Journal.{Run, entry_at, entry_count, carried, perform, performed, printed_all, printing, run_for}
 use Rattle.rules.proofs.Searches.{lowest_none}
 use Rattle.rows.specs.Written.{row_size}

@@ -15,7 +15,6 @@ use Rattle.rules.specs.declared.Refusal.{Refusal}
 use Rattle.rules.specs.declared.Refusal.TheVariants.{UnknownForm, ShortEnd}
 use Rattle.rules.specs.declared.Entry.{Entry}
 use Rattle.rules.specs.declared.Entry.TheVariants.{Read, Update, Fill, Age}
-use Rattle.rules.specs.declared.Decoded.{Decoded}
 use Rattle.rules.specs.contracts.Entry.{the_type}
 use Rattle.rules.specs.Answers.{Reply, read_kind, update_kind, fill_kind, age_kind}
 use Rattle.std.specs.Prelude.{if◌then◌else◌}
@@ -23,10 +22,10 @@ use Rattle.rules.specs.Table.{Memory}
 use Rattle.rules.specs.Steps.{Outcome}
 use Rattle.rules.specs.Journal.{Run, entry_size, kind_at, gaps_zero, picture_zero, weight_zero, key_zero, ticket_zero, key_at, weight_at, ticket_at, whole_entry, of_form, picture_place, decoded, entry_at, printed, row_of, printing, performed, carried, perform}
 use Rattle.runner.specs.declared.Progress.{Progress}
-use Rattle.rows.specs.Written.{row_size, Puts}
+use Rattle.rows.specs.Written.{row_size, written}
 use Rattle.runner.specs.Progress.{PictureInside, Runs, Steps}
-use Rattle.rows.proofs.Sizes.{row_short}
-use Rattle.rows.proofs.Written.{written_length, puts_join, printed_last}
+use Rattle.rows.proofs.Sizes.{row_short, joins}
+use Rattle.rows.proofs.Written.{printed_last}
 
 -- ---- pictures
 module _ (journal : List ℕ) where
@@ -94,10 +93,10 @@ module _ (journal : List ℕ) (p : Progress) (m : Memory) (out : List ℕ) where
 
   pub carried_on : (q : Progress) (out' : List ℕ) (o : Outcome Reply Memory) (entry : Result Entry Refusal) →
       (entry_at journal p.at).entry ≡ Some entry → o ≡ performed journal entry m → q.at ≡ (entry_at journal p.at).next → q.numbered ≡ p.numbered + 1 →
-      Puts out p.end (printed (row_of q.numbered o)) q.end out' → p.end + row_size ≤ length out →
-      Steps journal p m out q o.after out'
+      q.end ≡ p.end + length (printed (row_of q.numbered o)) → out' ≡ written out p.end (printed (row_of q.numbered o)) →
+      length out' ≡ length out → p.end + row_size ≤ length out → Steps journal p m out q o.after out'
   unfolding perform carried printing
-  carried_on q out' o entry more does next counts puts room =
+  carried_on q out' o entry more does next counts end holds long room =
       record { runs = λ run out₀ same r. rw (goes run out₀ r) (rows run out₀ same r) }
     where
       goes : (run : Run) (out₀ : List ℕ) → Runs run out₀ p m out → perform journal run (entry_at journal run.at) ≡ printing run q.at o
@@ -110,12 +109,12 @@ module _ (journal : List ℕ) (p : Progress) (m : Memory) (out : List ℕ) where
       rows : (run : Run) (out₀ : List ℕ) → length out₀ ≡ length out → Runs run out₀ p m out →
           Runs (printing run q.at o) out₀ q o.after out'
       rows run out₀ same r =
-          let fits : p.end + length (printed (row_of q.numbered o)) ≤ length out = omega (arith, row_short q.numbered o) in
           let number : suc run.numbered ≡ q.numbered = omega arith in
           record {
             memory = refl;
             at = refl;
             numbered = sym number;
-            within = rw (puts.holds, written_length out p.end _ fits) (omega arith);
-            rows = rw (number, printed_last) (puts_join (omega (arith, r.within)) r.rows puts);
+            within = omega (arith, row_short q.numbered o);
+            end = rw (number, printed_last) (grind (arith, joins));
+            rows = rw (number, printed_last) (grind (arith, joins));
           }

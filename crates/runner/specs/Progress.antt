@@ -9,7 +9,7 @@ use Rattle.rules.specs.Table.{Memory}
 use Rattle.rules.specs.Journal.{Run, printed_all, entry_at, perform, run_for, entry_count}
 use Rattle.runner.specs.declared.Progress.{Progress}
 use Rattle.runner.specs.declared.Ended.{Ended}
-use Rattle.rows.specs.Written.{row_size, Puts}
+use Rattle.rows.specs.Written.{row_size, written}
 
 -- a fill's picture lies in the journal
 pub record PictureInside (journal : List ℕ) (entry : Result Entry Refusal) : Type 0 where
@@ -21,7 +21,8 @@ pub record Runs (run : Run) (out₀ : List ℕ) (q : Progress) (m : Memory) (out
   pub at : q.at ≡ run.at
   pub numbered : q.numbered ≡ run.numbered
   pub within : q.end ≤ length out
-  pub rows : Puts out₀ 0 (printed_all run.rows) q.end out
+  pub end : q.end ≡ length (printed_all run.rows)
+  pub rows : out ≡ written out₀ 0 (printed_all run.rows)
 
 -- one step carries a run on
 pub record Steps (journal : List ℕ) (p : Progress) (m : Memory) (out : List ℕ) (q : Progress) (m' : Memory) (out' : List ℕ) : Type 0 where

@@ -10,7 +10,7 @@ ghost use Rattle.runner.specs.Progress.{PictureInside, Steps, room_for, Ends};
 
 use journal::{ENTRY_SIZE, decode};
 use records::LINE_SIZE;
-use rows::{ROW_SIZE, put_row};
+use rows::{ROW_SIZE, Rows};
 use rules::{Answer, Entry, Gauge, Refusal};
 
 // Does what a record says, on the cache.
@@ -41,7 +41,7 @@ fn perform(
 }
 
 // How far a run has come: the gauge, the places in the journal and in the output, and how many records have been numbered.
-#[derive(Clone, Copy)]
+#[derive(Clone, Copy, Debug)]
 pub struct Progress {
     pub gauge: Gauge,
     pub at: usize,
@@ -62,7 +62,9 @@ fn step(table: &mut [u8], lines: &mut [u8], journal: &[u8], out: &mut [u8], p: &
     let reply = perform(table, &mut p.gauge, lines, journal, entry);
     p.at = d.next;
     p.numbered += 1;
-    p.end = put_row(out, p.end, p.numbered, reply, p.gauge);
+    let mut rows = Rows { out, end: p.end };
+    rows.put_row(p.numbered, reply, p.gauge);
+    p.end = rows.end;
 }
 
 // Whether one more row has room in an output of so many bytes, and a number.
@@ -76,7 +78,7 @@ fn has_room(most: usize, p: Progress) -> bool
 
 // How far a run came, and whether that is the whole journal. Where it is not, the next row found no room. (No enum: how far it came is
 // there in both cases, and callers want it without asking which.)
-#[derive(Clone, Copy)]
+#[derive(Clone, Copy, Debug)]
 pub struct Ended {
     pub progress: Progress,
     pub whole: bool,
@@ -84,7 +86,7 @@ pub struct Ended {
 
 // Runs a piece of a journal that holds whole records, and perhaps a short end, numbering on from the records before it. It stops
 // before a record whose row has no room: ROW_SIZE bytes, and a number below 2^64. The records that are left begin at `progress.at`.
-#[tactic(auto, unfolding(crate::specs::Progress::room_for, crate::specs::Progress::records_run, rules::specs::Journal::run_for, rules::specs::Journal::printed_all, rules::specs::Journal::entry_count))]
+#[tactic(auto, unfolding(crate::specs::Progress::room_for, crate::specs::Progress::records_run, rules::specs::Journal::run_for, rules::specs::Journal::printed_all, rules::specs::Journal::entry_count), using(rows::proofs::Written::written_none))]
 pub fn run(
     table: &mut [u8],
     gauge: Gauge,

@@ -4,7 +4,7 @@
 ghost use Rattle.std.specs.Prelude.{◌≡◌, ◌≤◌, ◌<◌, ◌^◌, Some, None, Ok};
 ghost use Rattle.rules.specs.Bytes.{record_at, record_count};
 ghost use Rattle.rules.specs.Table.{most_total, aged_record, key_record, free_record, victim, change_all};
-ghost use Rattle.rules.specs.Calls.{most_weight, serial_limit, memory, SameLent};
+ghost use Rattle.rules.specs.Calls.{serial_limit, memory, SameLent};
 ghost use Rattle.rules.specs.Answers.{answer_number};
 ghost use Rattle.rules.specs.Steps.{outcome, aged, decay_for, track, admission, place, read_counted, peek_answer, read_steps, update_steps};
 ghost use Rattle.lines.specs.Room.{LinesFit, HeatsBelow};
@@ -12,23 +12,24 @@ ghost use Rattle.steps.specs.Room.{HeatsFit, EachAged};
 
 use fields::{aged_record, cooled, emptied, heated, new_record, read_answer};
 use lines::{admit, demote};
-use records::{RECORD_SIZE, put_record, record_at};
+use records::{change_record, put_record, record_at, record_count};
 use rules::{Answer, Hub, MOST_TOTAL, Record};
 use tracker::{Replacement, key_record, replaceable};
 
 // ---- Age
 
+// Ages every record.
 #[tactic(auto, unfolding(rules::specs::Table::change_all, rules::specs::Bytes::record_count))]
 fn age_records(table: &mut [u8])
     ensures table { table.new ≡ change_all aged_record table.old (record_count table.old) }
     ensures each { EachAged table.old table.new }
 {
-    for i in 0..table.len() / RECORD_SIZE {
-        let r = record_at(table, i);
-        put_record(table, i, aged_record(r));
+    for i in 0..record_count(table) {
+        change_record(table, i, aged_record);
     }
 }
 
+// An aging, of table and gauge.
 #[tactic(auto, unfolding(rules::specs::Steps::aged, rules::specs::Steps::aged_gauge, rules::specs::Table::half_down, rules::specs::Table::with_gauge, rules::specs::Table::with_table, rules::specs::Table::size))]
 pub fn age_all(hub: &mut Hub)
     ensures same_lent { SameLent hub.old hub.new }
@@ -43,19 +44,20 @@ pub fn age_all(hub: &mut Hub)
 
 // ---- Read
 
+// Step 1: an aging where the total would exceed L.
 #[tactic(auto, unfolding(rules::specs::Steps::decay_for))]
-fn decay_for(hub: &mut Hub, weight: u64)
-    requires { (hub.old.gauge.now.total ≤ most_total) × (weight ≤ most_weight) × HeatsFit (memory hub.old) × LinesFit (memory hub.old) }
+fn decay_for(hub: &mut Hub, weight: u16)
+    requires { (hub.old.gauge.now.total ≤ most_total) × HeatsFit (memory hub.old) × LinesFit (memory hub.old) }
     ensures same_lent { SameLent hub.old hub.new }
     ensures memory { memory hub.new ≡ decay_for weight (memory hub.old) }
     ensures room { HeatsFit (memory hub.new) × LinesFit (memory hub.new) }
 {
-    if MOST_TOTAL < hub.gauge.total + weight {
+    if MOST_TOTAL < hub.gauge.total + u64::from(weight) {
         age_all(hub);
     }
 }
 
-// Steps 5 and 6.
+// Steps 5 and 6 of a read: the record gets a line if it may, and the answer says how it stands.
 #[tactic(auto, unfolding(rules::specs::Bytes::record_count, rules::specs::Steps::admission, rules::specs::Table::places))]
 fn admission(hub: &mut Hub, i: usize) -> Answer
     requires { (i < record_count hub.old.table.now) × LinesFit (memory hub.old) × HeatsBelow (memory hub.old) × (hub.old.gauge.now.serial < serial_limit) }
@@ -68,9 +70,10 @@ fn admission(hub: &mut Hub, i: usize) -> Answer
     read_answer(record_at(table, i))
 }
 
+// The record at place i becomes the key's.
 #[tactic(auto, unfolding(rules::specs::Steps::track, rules::specs::Table::write, rules::specs::Table::with_table))]
-fn track(hub: &mut Hub, key: u64, weight: u64, i: usize)
-    requires { (i < record_count hub.old.table.now) × (weight ≤ most_weight) × (hub.old.gauge.now.ceiling ≤ most_total) }
+fn track(hub: &mut Hub, key: u64, weight: u16, i: usize)
+    requires { (i < record_count hub.old.table.now) × (hub.old.gauge.now.ceiling ≤ most_total) }
     ensures same_lent { SameLent hub.old hub.new }
     ensures memory { memory hub.new ≡ track (memory hub.old) key weight i }
 {
@@ -78,10 +81,10 @@ fn track(hub: &mut Hub, key: u64, weight: u64, i: usize)
     put_record(table, i, new_record(key, hub.gauge.ceiling, weight));
 }
 
-// Step 4.
+// Step 4: the victim leaves, and its record becomes the key's.
 #[tactic(auto, unfolding(rules::specs::Steps::place, rules::specs::Table::places, rules::specs::Table::size, rules::specs::Bytes::record_count, rules::specs::Table::with_gauge, rules::specs::Steps::evict, rules::specs::Steps::raised))]
-fn read_evicting(hub: &mut Hub, key: u64, weight: u64, i: usize, v: Record) -> Answer
-    requires { (weight ≤ most_weight) × HeatsFit (memory hub.old) × LinesFit (memory hub.old) × (hub.old.gauge.now.serial < serial_limit) × (victim (record_at hub.old.table.now) (record_count hub.old.table.now) ≡ Some (i, v)) }
+fn read_evicting(hub: &mut Hub, key: u64, weight: u16, i: usize, v: Record) -> Answer
+    requires { HeatsFit (memory hub.old) × LinesFit (memory hub.old) × (hub.old.gauge.now.serial < serial_limit) × (victim (record_at hub.old.table.now) (record_count hub.old.table.now) ≡ Some (i, v)) }
     ensures same_lent { SameLent hub.old hub.new }
     ensures outcome { outcome (Ok result) (memory hub.new) ≡ place (memory hub.old) key weight None None (victim (record_at hub.old.table.now) (record_count hub.old.table.now)) }
     ensures answer_bound { answer_number result < 2 ^ 64 }
@@ -91,10 +94,10 @@ fn read_evicting(hub: &mut Hub, key: u64, weight: u64, i: usize, v: Record) -> A
     admission(hub, i)
 }
 
-// Steps 3 and 4.
+// Steps 3 and 4: an untracked key gets the first free record, or the victim's.
 #[tactic(auto, unfolding(rules::specs::Steps::place, rules::specs::Answers::answer_number, rules::specs::Bytes::record_count, rules::specs::Table::size))]
-fn read_untracked(hub: &mut Hub, key: u64, weight: u64) -> Answer
-    requires { (weight ≤ most_weight) × HeatsFit (memory hub.old) × LinesFit (memory hub.old) × (hub.old.gauge.now.serial < serial_limit) }
+fn read_untracked(hub: &mut Hub, key: u64, weight: u16) -> Answer
+    requires { HeatsFit (memory hub.old) × LinesFit (memory hub.old) × (hub.old.gauge.now.serial < serial_limit) }
     ensures same_lent { SameLent hub.old hub.new }
     ensures outcome { outcome (Ok result) (memory hub.new) ≡ place (memory hub.old) key weight None (free_record (record_at hub.old.table.now) (record_count hub.old.table.now)) (victim (record_at hub.old.table.now) (record_count hub.old.table.now)) }
     ensures answer_bound { answer_number result < 2 ^ 64 }
@@ -110,10 +113,10 @@ fn read_untracked(hub: &mut Hub, key: u64, weight: u64) -> Answer
     }
 }
 
-// Steps 2 to 6.
+// Steps 2 to 6, once the total has grown.
 #[tactic(auto, unfolding(rules::specs::Steps::read_counted, rules::specs::Steps::place, rules::specs::Table::places, rules::specs::Table::size, rules::specs::Bytes::record_count, rules::specs::Table::heated, rules::specs::Table::write, rules::specs::Table::with_table))]
-fn read_counted(hub: &mut Hub, key: u64, weight: u64) -> Answer
-    requires { (weight ≤ most_weight) × HeatsFit (memory hub.old) × LinesFit (memory hub.old) × (hub.old.gauge.now.serial < serial_limit) }
+fn read_counted(hub: &mut Hub, key: u64, weight: u16) -> Answer
+    requires { HeatsFit (memory hub.old) × LinesFit (memory hub.old) × (hub.old.gauge.now.serial < serial_limit) }
     ensures same_lent { SameLent hub.old hub.new }
     ensures outcome { outcome (Ok result) (memory hub.new) ≡ read_counted (memory hub.old) key weight }
     ensures answer_bound { answer_number result < 2 ^ 64 }
@@ -138,9 +141,10 @@ fn peek(table: &[u8], key: u64) -> Answer
     }
 }
 
+// An accepted read: a look where the weight is 0, and else steps 1 to 6.
 #[tactic(auto, unfolding(rules::specs::Steps::read_steps, rules::specs::Steps::peek_steps, rules::specs::Table::places, rules::specs::Table::size, rules::specs::Steps::decay_for, rules::specs::Steps::aged, rules::specs::Steps::aged_gauge, rules::specs::Table::with_gauge, rules::specs::Table::half_down, rules::specs::Steps::warm_steps, rules::specs::Steps::grown))]
-pub fn read_steps(hub: &mut Hub, key: u64, weight: u64) -> Answer
-    requires { (hub.old.gauge.now.total ≤ most_total) × (weight ≤ most_weight) × HeatsFit (memory hub.old) × LinesFit (memory hub.old) × (0 < weight → hub.old.gauge.now.serial < serial_limit) }
+pub fn read_steps(hub: &mut Hub, key: u64, weight: u16) -> Answer
+    requires { (hub.old.gauge.now.total ≤ most_total) × HeatsFit (memory hub.old) × LinesFit (memory hub.old) × (0 < weight → hub.old.gauge.now.serial < serial_limit) }
     ensures same_lent { SameLent hub.old hub.new }
     ensures outcome { outcome (Ok result) (memory hub.new) ≡ read_steps (memory hub.old) key weight }
     ensures answer_bound { answer_number result < 2 ^ 64 }
@@ -150,15 +154,16 @@ pub fn read_steps(hub: &mut Hub, key: u64, weight: u64) -> Answer
         return peek(table, key);
     }
     decay_for(hub, weight);
-    hub.gauge.total += weight;
+    hub.gauge.total += u64::from(weight);
     read_counted(hub, key, weight)
 }
 
 // ---- Update
 
+// An accepted update.
 #[tactic(auto, unfolding(rules::specs::Steps::update_steps, rules::specs::Steps::change, rules::specs::Table::places, rules::specs::Table::size, rules::specs::Answers::answer_number, rules::specs::Table::emptied, rules::specs::Table::is_lined, rules::specs::Table::empty_state, rules::specs::Table::line_of, rules::specs::Bytes::record_count, rules::specs::Table::cooled, rules::specs::Table::write, rules::specs::Table::with_table))]
 pub fn update_steps(hub: &mut Hub, key: u64, weight: u64) -> Answer
-    requires { LinesFit (memory hub.old) × (hub.old.gauge.now.serial < serial_limit) }
+    requires { hub.old.gauge.now.serial < serial_limit }
     ensures same_lent { SameLent hub.old hub.new }
     ensures outcome { outcome (Ok result) (memory hub.new) ≡ update_steps (memory hub.old) key weight }
     ensures answer_bound { answer_number result < 2 ^ 64 }

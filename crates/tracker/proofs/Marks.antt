@@ -1,5 +1,5 @@
 -- Laws of the marks: no mark is right before the first record, each record marks half its state, which is the place of its line or
--- place 0, once every record is passed the lowest unmarked line is the lowest unused one, and the first mark that is 0 is its mark.
+-- place 0, once every record is passed the lowest unmarked line is the lowest unused one, and the first mark that is false is its mark.
 -- Assumes nothing.
 use Prim.Native.Nat.{ℕ, zero, suc, ◌+◌, ◌-◌, ◌/◌, ◌<◌}
 use mathlib.Core.Path.{◌≡◌, refl, sym}
@@ -9,11 +9,9 @@ use mathlib.Core.Logic.{◌≢◌}
 use native.Mathlib.Decide.{dec_lt, ℕ_discrete}
 use native.Mathlib.Omega.{arith}
 use borrow.Author.Tests.{lt-ltb, le-ltb, eq-eqb, ne_eqb}
-use lib.Dec.{eqb}
 use lib.ListN.{length, get_or, set, replicate, length-set}
 use lib.Seq.{get_or-set_same, get_or-set_other}
 use Rattle.rules.specs.declared.Record.{Record}
-use Rattle.std.specs.Prelude.{if◌then◌else◌}
 use Rattle.std.specs.List.{slice_range, position_or_len, position}
 use Rattle.std.proofs.lemmas.List.Sums.{position_or_len_is}
 use Rattle.std.proofs.lemmas.Grind.{common_steps}
@@ -21,17 +19,17 @@ use Rattle.rules.specs.Pass.{pass, any_of, lowest_not}
 use Rattle.rules.proofs.Searches.{lowest_within, lowest_fails, lowest_before}
 use Rattle.rules.specs.Table.{is_lined, line_of, is_on, is_used, lowest_unused}
 use Rattle.tracker.specs.Claiming.{below}
-use Rattle.tracker.specs.Marks.{Unmarked, Marks, is_marked, lowest_unmarked}
+use Rattle.tracker.specs.Marks.{Unmarked, Marks, lowest_unmarked}
 
-pub zeros_unmarked : (n : ℕ) → Unmarked (replicate n 0)
+pub zeros_unmarked : (n : ℕ) → Unmarked (replicate n false)
 zeros_unmarked n = record { clear = zero_at n }
   where
-    zero_at : (n i : ℕ) → get_or {A = ℕ} (replicate n 0) i 0 ≡ 0
+    zero_at : (n i : ℕ) → get_or {A = Bool} (replicate n false) i false ≡ false
     zero_at zero i = refl
     zero_at (suc n) zero = refl
     zero_at (suc n) (suc i) = zero_at n i
 
-pub marks_none : (f : ℕ → Record) (used : List ℕ) → Unmarked used → Marks f 0 used
+pub marks_none : (f : ℕ → Record) (used : List Bool) → Unmarked used → Marks f 0 used
 unfolding is_used any_of pass
 marks_none f used h = record { marked = λ line below. h.clear (line + 1) }
 
@@ -48,7 +46,7 @@ off_line r line e =
       | no unlined ↦ rw (le-ltb 1 r.state (omega arith))
     ]
 
-pub marks_more : (f : ℕ → Record) (n : ℕ) (used : List ℕ) → Marks f n used → Marks f (suc n) (set used ((f n).state / 2) 1)
+pub marks_more : (f : ℕ → Record) (n : ℕ) (used : List Bool) → Marks f n used → Marks f (suc n) (set used ((f n).state / 2) true)
 unfolding is_used any_of pass
 marks_more f n used so_far =
     record {
@@ -56,41 +54,34 @@ marks_more f n used so_far =
           λ line below.
           let inside : line + 1 < length used = rw length-set at below in
           elim (ℕ_discrete ((f n).state / 2) (line + 1)) [
-            | yes e ↦ rw (e, get_or-set_same used (line + 1) 1 0, on_line (f n) line e)
-            | no e ↦ rw (get_or-set_other used _ (line + 1) 1 0 (λ q. e (sym q)), off_line (f n) line e) (so_far.marked line inside)
+            | yes e ↦ rw (e, get_or-set_same used (line + 1) true false, on_line (f n) line e)
+            | no e ↦ rw (get_or-set_other used _ (line + 1) true false (λ q. e (sym q)), off_line (f n) line e) (so_far.marked line inside)
           ];
     }
 
-module _ (f : ℕ → Record) (n : ℕ) (used : List ℕ) (marks : Marks f n used) where
-  mark_tells : (line : ℕ) → line + 1 < length used → is_marked used line ≡ is_used f n line
-  unfolding is_marked
-  mark_tells line below = rw (marks.marked line below) (go (is_used f n line))
-    where
-      go : (b : Bool) → not (eqb (if b then 1 else 0) 0) ≡ b
-      go true = refl
-      go false = refl
-
+module _ (f : ℕ → Record) (n : ℕ) (used : List Bool) (marks : Marks f n used) where
   pub lowest_unmarked_unused : (lines : ℕ) → lines < length used → lowest_unmarked used lines ≡ lowest_unused f n lines
   unfolding lowest_unmarked lowest_unused lowest_not
   lowest_unmarked_unused zero all = refl
   lowest_unmarked_unused (suc line) all =
-      rw (lowest_unmarked_unused line (omega arith), mark_tells line (omega arith))
+      rw (lowest_unmarked_unused line (omega arith), marks.marked line (omega arith))
 
--- the first 0 among the marks of so many lines is that of the lowest unmarked one
-module _ (used : List ℕ) (lines : ℕ) (inside : lines < length used) where
+-- the first false among the marks of so many lines is that of the lowest unmarked one
+module _ (used : List Bool) (lines : ℕ) (inside : lines < length used) where
   marks_length : length (slice_range used 1 (lines + 1)) ≡ lines
   marks_length = grind (arith, common_steps)
 
-  first_clear : position_or_len (λ mark. eqb mark 0) (slice_range used 1 (lines + 1)) ≡ lowest_unmarked used lines
-  unfolding lowest_unmarked is_marked
+  first_clear : position_or_len not (slice_range used 1 (lines + 1)) ≡ lowest_unmarked used lines
+  unfolding lowest_unmarked
   first_clear =
       let marks = slice_range used 1 (lines + 1) in
-      let mark_of : (k : ℕ) → k < lines → get_or marks k 0 ≡ get_or used (k + 1) 0 = λ k below. grind (arith, common_steps) in
+      let at : ℕ → Bool = λ line. get_or used (line + 1) false in
+      let mark_of : (k : ℕ) → k < lines → get_or marks k false ≡ at k = λ k below. grind (arith, common_steps) in
       let size = marks_length in
-      let within = lowest_within (is_marked used) lines in
-      position_or_len_is (λ mark. eqb mark 0) marks (lowest_unmarked used lines) 0 (omega arith)
-      (λ k before. let h = lowest_before (is_marked used) lines k before in let e = mark_of k (omega arith) in grind arith)
-      (λ below. let h = lowest_fails (is_marked used) lines (omega arith) in let e = mark_of (lowest_unmarked used lines) (omega arith) in grind arith)
+      let within = lowest_within at lines in
+      position_or_len_is not marks (lowest_unmarked used lines) false (omega arith)
+      (λ k before. let h = lowest_before at lines k before in let e = mark_of k (omega arith) in grind arith)
+      (λ below. let h = lowest_fails at lines (omega arith) in let e = mark_of (lowest_unmarked used lines) (omega arith) in grind arith)
 
-  pub clear_is_unmarked : position (λ mark. eqb mark 0) (slice_range used 1 (lines + 1)) ≡ below lines (lowest_unmarked used lines)
+  pub clear_is_unmarked : position not (slice_range used 1 (lines + 1)) ≡ below lines (lowest_unmarked used lines)
   clear_is_unmarked = rw (first_clear, marks_length)

@@ -2,11 +2,10 @@
 -- leaves what is held, and one that serves and is not free is held. Assumes nothing.
 use Prim.Native.Nat.{ℕ, zero, suc, ◌+◌, ◌<◌}
 use mathlib.Core.Path.{◌≡◌, refl, sym}
-use mathlib.Core.Logic.{◌≢◌}
 use mathlib.Core.Bool.{Bool, true, false, not, ◌||◌}
 use native.Mathlib.Numerals.{add-one}
 use native.Mathlib.Omega.{arith}
-use borrow.Author.Tests.{ltb-true, ltb-false, eq-eqb, ne_eqb}
+use borrow.Author.Tests.{ltb-true, ltb-false, eq-eqb, ne_eqb, eqb-false}
 use Rattle.std.specs.Prelude.{Some, None}
 use Rattle.rules.proofs.Searches.{first_at, first_nowhere}
 use Rattle.rules.specs.declared.Record.{Record}
@@ -44,22 +43,23 @@ module _ (f : ℕ → Record) where
     none_first e = none_yet n (first_nowhere is_off_line f n (sym e))
 
     module _ (i : ℕ) (r : Record) (found : Some (i, r) ≡ first_of is_off_line f n) where
-      pub free_first : r.state ≡ 0 → free_record f n ≡ Some (i, f i)
-      unfolding free_record is_free
+      pub free_first : is_free r ≡ true → free_record f n ≡ Some (i, f i)
+      unfolding free_record
       free_first free =
           let h = first_at is_off_line f n i r (sym found) in
           let none = none_yet i h.before in
-          rw (← h.is) (sym (found_here is_free f i r none.0 h.is n h.inside (eq-eqb r.state 0 free)))
+          rw (← h.is) (sym (found_here is_free f i r none.0 h.is n h.inside free))
 
-      pub held_first : r.state ≢ 0 → (i < n) × ColdestYet f (i + 1) i
+      pub held_first : is_free r ≡ false → (i < n) × ColdestYet f (i + 1) i
       unfolding free_record is_free victim best_of pass best is_unlined is_lined
       held_first taken =
           let h = first_at is_off_line f n i r (sym found) in
           let below = ltb-false _ _ (not_on_line _ h.passes) in
-          let none = none_yet i h.before in (
+          let none = none_yet i h.before in
+          let tracked = eqb-false r.state 0 taken in (
             h.inside,
             record {
-              none_free = not_here is_free f i r none.0 h.is (ne_eqb r.state 0 taken);
+              none_free = not_here is_free f i r none.0 h.is taken;
               holds = rw (add-one, none.1, ← h.is, eq-eqb r.state 1 (omega arith));
             },
           )
@@ -75,11 +75,10 @@ module _ (f : ℕ → Record) (i : ℕ) (r : Record) (read : r ≡ f i) where
           holds = rw (add-one, so_far.holds, ← read, ← same, warmer);
         }
 
-    pub moves : serves least r ≡ true → r.state ≢ 0 → ColdestYet f (i + 1) i
-    unfolding free_record victim best_of pass best colder serves is_free
+    pub moves : serves least r ≡ true → is_free r ≡ false → ColdestYet f (i + 1) i
+    unfolding free_record victim best_of pass best colder serves
     moves serves-it taken =
-        let is-taken = ne_eqb r.state 0 taken in
         record {
-          none_free = not_here is_free f i r so_far.none_free read is-taken;
-          holds = rw (add-one, so_far.holds, ← read, ← same, second _ _ serves-it is-taken);
+          none_free = not_here is_free f i r so_far.none_free read taken;
+          holds = rw (add-one, so_far.holds, ← read, ← same, second _ _ serves-it taken);
         }

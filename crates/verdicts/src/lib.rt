@@ -4,19 +4,21 @@
 ghost use Rattle.std.specs.Prelude.{◌≡◌, true, [], ◌∷◌, ◌≤◌};
 ghost use Rattle.rules.specs.Bytes.{record_at, record_count};
 ghost use Rattle.rules.specs.Table.{record_in_order, in_order};
-ghost use Rattle.rules.specs.Calls.{most_records, seen, sizes_good, must, verdict, sizes_test, order_test, serial_test, read_verdict, update_verdict, fill_verdict, plain_verdict};
+ghost use Rattle.rules.specs.Calls.{most_records, seen, sizes_good, verdict, sizes_test, order_test, serial_test, read_verdict, update_verdict, fill_verdict, plain_verdict};
 
 use fields::{is_lined, is_zero};
-use records::{LINE_SIZE, RECORD_SIZE, record_at};
-use rules::{Gauge, MOST_RECORDS, MOST_TOTAL, MOST_WEIGHT, Record, Refusal, SERIAL_LIMIT, View};
+use records::{LINE_SIZE, RECORD_SIZE, line_count, record_at, record_count};
+use rules::{
+    Gauge, MOST_RECORDS, MOST_TOTAL, MOST_WEIGHT, Record, Refusal, SERIAL_LIMIT, State, View, must,
+};
 
 // Whether the table has 1 to 1,024 whole records and the lines are whole and fewer.
 #[tactic(auto, unfolding(rules::specs::Calls::sizes_good, rules::specs::Bytes::record_count, rules::specs::Bytes::line_count))]
 pub fn sizes_good(table: &[u8], lines: &[u8]) -> bool
     ensures { result ≡ sizes_good table.now lines.now }
 {
-    let n = table.len() / RECORD_SIZE;
-    let c = lines.len() / LINE_SIZE;
+    let n = record_count(table);
+    let c = line_count(lines);
     RECORD_SIZE * n == table.len()
         && 1 <= n
         && n <= MOST_RECORDS
@@ -26,24 +28,24 @@ pub fn sizes_good(table: &[u8], lines: &[u8]) -> bool
 
 // ---- order
 
-// Whether a record is in order. One on a line is asked for its line alone; of any other the ticket is looked at first, also of a free
-// one, which is all zero. (No match of the state: it proves, and a call is up to an eighth slower.)
-#[tactic(auto, unfolding(rules::specs::Table::record_in_order, rules::specs::Table::is_tracked, rules::specs::Table::is_lined))]
+// Whether a record is in order.
+#[tactic(auto, unfolding(rules::specs::Table::record_in_order, rules::specs::Table::is_tracked, rules::specs::Table::is_lined, rules::specs::Table::is_zero, rules::specs::States::state_number))]
 fn record_in_order(r: Record, total: u64, lines: usize) -> bool
     requires { lines ≤ most_records }
     ensures { result ≡ record_in_order total lines r }
 {
-    if total < r.heat {
-        return false;
-    }
-    if is_lined(r) {
-        return r.state <= 1 + 2 * (lines as u64);
-    }
-    r.ticket == 0 && (0 < r.state || is_zero(r))
+    r.heat <= total
+        && match State::from(r.state) {
+            State::Free => is_zero(r),
+            State::Unlined => r.ticket == 0,
+            State::Empty(line) | State::Filled(line) => line < lines as u64,
+        }
 }
 
-// Whether the table is in order, in one pass.
+// Whether the table is in order, in one pass. (Not inlined: inside an export the compiler takes the loop for one that is seldom run and
+// does not align it, and a call is up to a fifth slower.)
 #[tactic(auto, using(rules::proofs::Searches::count_within), unfolding(rules::specs::Table::in_order, rules::specs::Pass::all_of, rules::specs::Pass::count_of, rules::specs::Pass::sum_of, rules::specs::Pass::pass, rules::specs::Bytes::record_count))]
+#[inline(never)]
 pub fn in_order(table: &[u8], gauge: Gauge, lines: usize) -> bool
     requires { lines ≤ most_records }
     ensures { result ≡ in_order (record_at table.now) (record_count table.now) lines gauge }
@@ -53,7 +55,7 @@ pub fn in_order(table: &[u8], gauge: Gauge, lines: usize) -> bool
         return false;
     }
     let mut lined = 0;
-    for i in 0..table.len() / RECORD_SIZE {
+    for i in 0..record_count(table) {
         let r = record_at(table, i);
         if !record_in_order(r, total, lines) {
             return false;
@@ -67,14 +69,6 @@ pub fn in_order(table: &[u8], gauge: Gauge, lines: usize) -> bool
 
 // ---- the tests of a call
 
-// One test: refused with a cause, unless it is good.
-#[tactic(auto, unfolding(rules::specs::Calls::verdict))]
-fn must(good: bool, cause: Refusal) -> Result<(), Refusal>
-    ensures { result ≡ verdict (must good cause ∷ []) }
-{
-    if good { Ok(()) } else { Err(cause) }
-}
-
 #[tactic(auto, unfolding(rules::specs::Calls::sizes_test))]
 fn sizes_test(lent: View) -> Result<(), Refusal>
     ensures { result ≡ verdict (sizes_test (seen lent.entry) ∷ []) }
@@ -83,13 +77,13 @@ fn sizes_test(lent: View) -> Result<(), Refusal>
 }
 
 // The table's order, once the sizes are good.
-#[tactic(auto, using(rules::proofs::Memories::sizes_say), unfolding(rules::specs::Bytes::line_count, rules::specs::Calls::order_test, rules::specs::Calls::order_good, rules::specs::Table::places, rules::specs::Table::size, rules::specs::Table::line_total))]
+#[tactic(auto, using(rules::proofs::Memories::sizes_say), unfolding(rules::specs::Calls::order_test, rules::specs::Calls::order_good, rules::specs::Table::places, rules::specs::Table::size, rules::specs::Table::line_total))]
 fn order_test(lent: View) -> Result<(), Refusal>
     requires { sizes_good lent.table.now lent.lines.now ≡ true }
     ensures { result ≡ verdict (order_test (seen lent.entry) ∷ []) }
 {
     must(
-        in_order(lent.table, lent.gauge, lent.lines.len() / LINE_SIZE),
+        in_order(lent.table, lent.gauge, line_count(lent.lines)),
         Refusal::NotInOrder,
     )
 }

@@ -15,4 +15,4 @@ sum_levels-requires c =
     let good = plain_accepted m (sym (rw c.view.ensures at c.in_ok-plain_verdict.ensures)) in
     let sizes = sizes_say m.table m.lines good.sizes in
     let room = (order_fits m good.sizes good.order).1 in
-    (omega arith, omega arith, record { ceiling_most = room.ceiling; heat_most = room.heat })
+    (omega arith, record { ceiling_most = room.ceiling; heat_most = room.heat })

@@ -7,11 +7,15 @@ use Rattle.rules.proofs.Verdicts.{read_accepted}
 use Rattle.steps.proofs.Rooms.{order_fits}
 use Rattle.cache.proofs.read.Goals as goal
 
+pub overflow_cast-weight : goal.overflow_cast-weight
+overflow_cast-weight c =
+    let told = read_accepted _ _ (sym (rw c.view.ensures at c.in_ok-read_verdict.ensures)) in omega (arith, told.good)
+
 pub read_steps-requires : goal.read_steps-requires
 read_steps-requires c =
     let told = read_accepted _ _ (sym (rw c.view.ensures at c.in_ok-read_verdict.ensures)) in
     let (total, heats, lines) = order_fits _ told.sizes told.order in
-    (total, told.good, heats, lines, told.serial)
+    (total, heats, lines, told.serial)
 
 pub returns-clause-said : goal.returns-clause-said
 unfolding read_outcome unless

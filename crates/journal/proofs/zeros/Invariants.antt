@@ -1,7 +1,7 @@
--- After so many bytes the loop holds whether they are all 0, which is the definition at that number.
-use Rattle.std.proofs.Common.{◌≡◌}
-use Rattle.rules.specs.Journal.{zeros}
+-- After so many bytes the loop holds whether they are all 0.
+use Rattle.std.proofs.Common.{◌≡◌, ◌==◌, take}
+use Rattle.std.specs.List.{list_all}
 use Rattle.journal.proofs.zeros.Given as goal
 
 abbrev pub invariant-loop-b : goal.invariant-loop-b
-invariant-loop-b l = l.good ≡ zeros l.bytes l.at l.b-index
+invariant-loop-b l = l.good ≡ list_all (λ b. b == 0) (take l.b-index l.bytes)

@@ -1,18 +1,12 @@
 -- A run stops at the first record whose row has no room, or after all of them. Assumes nothing.
-use Rattle.std.proofs.Common.{◌≡◌, ℕ, ◌<◌, Bool, true, false, List, length, refl, sym, ◌∙◌, zero-add, eq-eqb, ne_eqb, arith}
+use Rattle.std.proofs.Common.{◌≡◌, ℕ, ◌<◌, true, false, List, length, refl, sym, ◌∙◌, eq-eqb, ne_eqb, arith}
 use Rattle.rules.specs.Table.{Memory}
-use Rattle.rules.specs.Journal.{Run, run_for, entry_count, printed_all}
+use Rattle.rules.specs.Journal.{Run, run_for, entry_count}
 use Rattle.rules.proofs.Searches.{lowest_found, lowest_none}
-use Rattle.rows.proofs.Written.{written_none}
 use Rattle.runner.specs.declared.Progress.{Progress}
-use Rattle.runner.specs.Progress.{Runs, Ends, room_for, records_run}
+use Rattle.runner.specs.Progress.{Runs, Ends, records_run}
 use Rattle.runner.proofs.run.Invariants.{next_fits}
 use Rattle.runner.proofs.run.Goals as goal
-
--- what the test of room says
-says_fits : {run : Run} {out₀ out : List ℕ} {p : Progress} {m : Memory} {b : Bool} → b ≡ room_for (length out) p.end p.numbered →
-    length out ≡ length out₀ → Runs run out₀ p m out → next_fits (length out₀) run ≡ b
-says_fits says same r = sym (rw (same, r.numbered, r.rows.ends, zero-add) at says)
 
 -- the two ways out
 module _ (journal : List ℕ) {start : Run} {out₀ out : List ℕ} {p : Progress} {m : Memory} {i : ℕ} where
@@ -31,18 +25,12 @@ module _ (journal : List ℕ) {start : Run} {out₀ out : List ℕ} {p : Progres
       let e : records_run journal start (length out₀) ≡ i = lowest_none _ _ (rw (← all) at before) ∙ all in
       record { runs = rw e r; whole = rw (e, all) (sym (eq-eqb i i refl)) }
 
-pub loop-i-init : goal.loop-i-init
-unfolding run_for printed_all
-loop-i-init c = (
-  record { memory = refl; at = refl; numbered = refl; within = omega arith; rows = record { ends = refl; holds = sym (written_none _ 0) } },
-  λ k below. absurd (omega arith),
-)
-
 pub returns-then-not-has_room : goal.returns-then-not-has_room
 unfolding entry_count
 returns-then-not-has_room c =
+    let (r, before) = c.loop-i.invariant in
     stops c.args.journal.now (omega arith)
-    (says_fits c.has_room.ensures c.loop-i.auto.out c.loop-i.invariant.0 ∙ c.if-not-has_room.true) c.loop-i.invariant.1 c.loop-i.invariant.0
+    (rw (← r.end, ← r.numbered, ← c.loop-i.auto.out) (sym c.has_room.ensures ∙ c.if-not-has_room.true)) before r
 
 pub returns : goal.returns
 unfolding entry_count

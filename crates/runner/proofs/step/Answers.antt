@@ -1,4 +1,4 @@
-use Rattle.std.proofs.Common.{refl}
+use Rattle.std.proofs.Common.{refl, rules}
 use Rattle.rules.specs.Calls.{lent}
 use Rattle.rules.specs.Steps.{outcome}
 use Rattle.rules.specs.Journal.{row_of}
@@ -28,5 +28,7 @@ returns c =
     did.ensures
     (rw (← c.decode-d.ensures.0))
     refl
-    c.put_row-p.ensures
+    c.put_row.ensures.ends
+    (search rules)
+    (search rules)
     c.requires.0

@@ -9,7 +9,7 @@ use Rattle.steps.proofs.age_records.Goals as goal
 
 pub loop-i-preserved : goal.loop-i-preserved
 unfolding change_all
-loop-i-preserved c = rw (add-one, c.put_record.ensures, c.aged_record.ensures, c.record_at-r.ensures, c.loop-i.invariant)
+loop-i-preserved c = rw (add-one, c.change_record.ensures _ (λ r made. made.1), c.loop-i.invariant)
 
 pub returns-clause-each : goal.returns-clause-each
 unfolding places size aged with_table with_gauge record_count

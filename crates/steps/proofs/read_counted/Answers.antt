@@ -1,5 +1,5 @@
 -- A read does not change the state of the record that `key_record` found. Assumes nothing.
-use Rattle.std.proofs.Common.{sym, ◌∙◌, arith}
+use Rattle.std.proofs.Common.{sym, arith}
 use Rattle.rules.specs.Bytes.{record_count}
 use Rattle.rules.specs.Table.{heated, places, size, with_table, write}
 use Rattle.rules.proofs.Finds.{key_found}
@@ -10,18 +10,19 @@ use Rattle.steps.proofs.read_counted.Goals as goal
 pub heated-requires : goal.heated-requires
 unfolding places size
 heated-requires c =
-    let found = key_found _ _ _ _ _ (sym c.key_record.ensures ∙ c.in-Some.is) in
-    (omega (arith, c.requires.0), rw found.is (c.requires.1.heat _ found.inside))
+    let found = key_found _ _ _ _ _ (sym c.in-Some.ensures) in
+    rw found.is (c.requires.0.heat _ found.inside)
 
 pub put_record-requires : goal.put_record-requires
-put_record-requires c = (key_found _ _ _ _ _ (sym c.key_record.ensures ∙ c.in-Some.is)).inside
+put_record-requires c = (key_found _ _ _ _ _ (sym c.in-Some.ensures)).inside
 
 pub admission-requires : goal.admission-requires
 unfolding record_count heated places size write with_table
 admission-requires c =
-    let found = key_found _ _ _ _ _ (sym c.key_record.ensures ∙ c.in-Some.is) in
+    let found = key_found _ _ _ _ _ (sym c.in-Some.ensures) in
     let is : IsRecord c.heated.result = omega (arith, c.heated.type_inv) in
-    let (weight, heats, lines, serial) = c.requires in (
+    let weight = c.ranges.weight.fits in
+    let (heats, lines, serial) = c.requires in (
       omega arith,
       rw c.put_record.ensures (lines_write _ _ _ lines found.inside is (rw (c.heated.ensures, found.is) (lines.state _ found.inside))),
       rw c.put_record.ensures

@@ -1,6 +1,7 @@
 -- The new ceiling is a heat or the old ceiling, so it has room for the weight. Assumes nothing.
-use Rattle.std.proofs.Common.{arith}
+use Rattle.std.proofs.Common.{◌≤◌, arith}
 use Rattle.rules.specs.Bytes.{record_count}
+use Rattle.rules.specs.Calls.{most_weight}
 use Rattle.rules.specs.Table.{places, size, with_gauge, with_ceiling}
 use Rattle.rules.proofs.Finds.{victim_found}
 use Rattle.steps.proofs.Rooms.{lines_gauge, heats_gauge, track_fits, serial_track}
@@ -9,16 +10,17 @@ use Rattle.steps.proofs.read_evicting.Goals as goal
 pub track-requires : goal.track-requires
 unfolding places size
 track-requires c =
-    let found = victim_found _ _ _ _ c.requires.4 in
-    let below = rw (← found.is) at (c.requires.1.heat _ found.inside) in
-    let most = c.requires.1.ceiling in
-    (found.inside, c.requires.0, rw c.max-hub.ensures (grind arith))
+    let found = victim_found _ _ _ _ c.requires.3 in
+    let below = rw (← found.is) at (c.requires.0.heat _ found.inside) in
+    let most = c.requires.0.ceiling in
+    (found.inside, rw c.max-hub.ensures (grind arith))
 
 pub admission-requires : goal.admission-requires
 unfolding record_count size with_gauge places
 admission-requires c =
-    let found = victim_found _ _ _ _ c.requires.4 in
-    let (weight, heats, lines, serial, _) = c.requires in
+    let found = victim_found _ _ _ _ c.requires.3 in
+    let weight : c.args.weight ≤ most_weight = omega (arith, c.ranges.weight.fits) in
+    let (heats, lines, serial, _) = c.requires in
     let below = rw (← found.is) at (heats.heat _ found.inside) in
     let most = heats.ceiling in
     let is = c.track.ensures.memory in

@@ -18,7 +18,7 @@ gives_none w m = go (ltb most_total (m.gauge.total + w))
 pub read_counted-requires : goal.read_counted-requires
 unfolding with_gauge
 read_counted-requires c =
-    let (_, weight, _, _, serial) = c.requires in
+    let (_, _, _, serial) = c.requires in
     let (heats, lines) = c.decay_for.ensures.room in
     let same = ap (λ (m : Memory). m.gauge.serial) c.decay_for.ensures.memory ∙ gives_none _ _ in
-    (weight, heats_gauge _ _ heats heats.ceiling, lines_gauge _ _ lines, rw same (serial (omega arith)))
+    (heats_gauge _ _ heats heats.ceiling, lines_gauge _ _ lines, rw same (serial (omega arith)))

@@ -1,4 +1,4 @@
-use Rattle.std.proofs.Common.{rules, eqb, ◌+◌, ◌∙◌}
+use Rattle.std.proofs.Common.{rules, not, ◌+◌, ◌∙◌}
 use Rattle.std.specs.List.{slice_range}
 use Rattle.std.proofs.lemmas.Iterator.{YieldsList-from_slice}
 use Rattle.std.proofs.lemmas.Iterator.Search.{position_from_yields_List}
@@ -8,6 +8,6 @@ use Rattle.tracker.proofs.lowest_unmarked.Goals as goal
 
 pub returns : goal.returns
 returns c =
-    position_from_yields_List (λ mark. eqb mark 0) _ _ c.position.result c.position.ensures.ran
+    position_from_yields_List not _ _ c.position.result c.position.ensures.ran
     (YieldsList-from_slice (slice_range c.args.used.now 1 (c.args.lines + 1)) cc) (λ x b q k. search (rules, tests))
     ∙ clear_is_unmarked _ _ c.requires

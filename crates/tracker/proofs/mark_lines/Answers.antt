@@ -1,15 +1,14 @@
 use Rattle.std.proofs.Common.{add-one}
-use Rattle.rules.specs.Bytes.{record_count}
 use Rattle.tracker.proofs.Claiming.{coldest_moves, coldest_stays}
 use Rattle.tracker.proofs.Marks.{marks_more}
 use Rattle.tracker.proofs.mark_lines.Goals as goal
 use Rattle.tracker.proofs.mark_lines.Goals.{then-heat-least, else-heat-least}
 
 pub loop-i-preserved : goal.loop-i-preserved
-unfolding record_count
 loop-i-preserved c =
     let (marks, coldest) = c.loop-i.invariant in
-    let fits = c.requires.1.heat c.loop-i.i c.loop-i-test.true in
+    let below = rw c.record_count-n.ensures at c.loop-i-test.true in
+    let fits = c.requires.1.heat c.loop-i.i below in
     let heat = rw c.record_at-r.ensures at c.lined_heat-heat.ensures in (
       rw (add-one, c.record_at-r.ensures) (marks_more _ _ _ marks),
       elim c.if-heat-least.branch [
