@@ -210,7 +210,7 @@ fn spent(rt: &impl Print, hub: &mut Hub) -> io::Result<()> {
 }
 
 // The bytes of a record that is tracked, without a line.
-#[tactic(auto, unfolding(rules::specs::Bytes::record_count, rules::specs::States::state_number))]
+#[tactic(auto, unfolding(rules::specs::Bytes::record_count, rules::specs::States::state_number, rules::specs::Table::empty_state, rules::specs::Table::filled_state))]
 fn tracked(heat: u64) -> [u8; RECORD_SIZE] {
     let mut bytes = [0; RECORD_SIZE];
     put_record(

@@ -12,7 +12,7 @@ use rules::{Answer, Record, State};
 // ---- what a record's state says
 
 // Whether it is free.
-#[tactic(auto, unfolding(rules::specs::Table::is_free, rules::specs::States::state_number))]
+#[tactic(auto, unfolding(rules::specs::Table::is_free, rules::specs::States::state_number, rules::specs::Table::empty_state, rules::specs::Table::filled_state))]
 pub fn is_free(r: Record) -> bool
     ensures { result ≡ is_free r }
 {
@@ -20,7 +20,7 @@ pub fn is_free(r: Record) -> bool
 }
 
 // Whether it is tracked without a line.
-#[tactic(auto, unfolding(rules::specs::Table::is_unlined, rules::specs::States::state_number))]
+#[tactic(auto, unfolding(rules::specs::Table::is_unlined, rules::specs::States::state_number, rules::specs::Table::empty_state, rules::specs::Table::filled_state))]
 pub fn is_unlined(r: Record) -> bool
     ensures { result ≡ is_unlined r }
 {
@@ -28,7 +28,7 @@ pub fn is_unlined(r: Record) -> bool
 }
 
 // Whether it is on a line.
-#[tactic(auto, unfolding(rules::specs::Table::is_lined, rules::specs::States::state_number))]
+#[tactic(auto, unfolding(rules::specs::Table::is_lined, rules::specs::States::state_number, rules::specs::Table::empty_state, rules::specs::Table::filled_state))]
 pub fn is_lined(r: Record) -> bool
     ensures { result ≡ is_lined r }
 {
@@ -36,7 +36,7 @@ pub fn is_lined(r: Record) -> bool
 }
 
 // Whether it is on a line that is filled.
-#[tactic(auto, unfolding(rules::specs::Table::is_filled, rules::specs::Table::is_lined, rules::specs::States::state_number))]
+#[tactic(auto, unfolding(rules::specs::Table::is_filled, rules::specs::Table::is_lined, rules::specs::States::state_number, rules::specs::Table::empty_state, rules::specs::Table::filled_state))]
 pub fn is_filled(r: Record) -> bool
     ensures { result ≡ is_filled r }
 {
@@ -44,7 +44,7 @@ pub fn is_filled(r: Record) -> bool
 }
 
 // The line that it is on.
-#[tactic(auto, unfolding(rules::specs::Table::is_lined, rules::specs::Table::line_of, rules::specs::States::state_number))]
+#[tactic(auto, unfolding(rules::specs::Table::is_lined, rules::specs::Table::line_of, rules::specs::States::state_number, rules::specs::Table::empty_state, rules::specs::Table::filled_state))]
 pub fn line_of(r: Record) -> usize
     requires { is_lined r ≡ true }
     ensures { result ≡ line_of r }
@@ -101,7 +101,7 @@ pub fn aged_record(r: Record) -> Record
 }
 
 // Of a key that is tracked anew.
-#[tactic(auto, unfolding(rules::specs::Table::new_record, rules::specs::States::state_number))]
+#[tactic(auto, unfolding(rules::specs::Table::new_record, rules::specs::States::state_number, rules::specs::Table::empty_state, rules::specs::Table::filled_state))]
 pub fn new_record(key: u64, ceiling: u64, weight: u16) -> Record
     requires { ceiling ≤ most_total }
     ensures { result ≡ new_record key ceiling weight }
@@ -116,7 +116,7 @@ pub fn new_record(key: u64, ceiling: u64, weight: u16) -> Record
 }
 
 // Off its line.
-#[tactic(auto, unfolding(rules::specs::Table::unlined, rules::specs::States::state_number))]
+#[tactic(auto, unfolding(rules::specs::Table::unlined, rules::specs::States::state_number, rules::specs::Table::empty_state, rules::specs::Table::filled_state))]
 pub fn unlined(r: Record) -> Record
     ensures { result ≡ unlined r }
 {
@@ -128,7 +128,7 @@ pub fn unlined(r: Record) -> Record
 }
 
 // On a line that it has just got, with the ticket that it got with it.
-#[tactic(auto, unfolding(rules::specs::Table::empty_state, rules::specs::Table::on_empty_line, rules::specs::States::state_number))]
+#[tactic(auto, unfolding(rules::specs::Table::empty_state, rules::specs::Table::on_empty_line, rules::specs::States::state_number, rules::specs::Table::filled_state))]
 pub fn on_empty_line(line: usize, ticket: u64, r: Record) -> Record
     requires { empty_state line < 2 ^ 64 }
     ensures { result ≡ on_empty_line line ticket r }
@@ -141,7 +141,7 @@ pub fn on_empty_line(line: usize, ticket: u64, r: Record) -> Record
 }
 
 // With its line, if it is on one, empty.
-#[tactic(auto, unfolding(rules::specs::Table::line_of, rules::specs::Table::emptied, rules::specs::Table::empty_state, rules::specs::States::state_number, rules::specs::Table::is_lined))]
+#[tactic(auto, unfolding(rules::specs::Table::line_of, rules::specs::Table::emptied, rules::specs::Table::empty_state, rules::specs::States::state_number, rules::specs::Table::filled_state, rules::specs::Table::is_lined))]
 pub fn emptied(r: Record) -> Record
     ensures { result ≡ emptied r }
 {
@@ -170,7 +170,7 @@ pub fn filled(r: Record) -> Record
 
 // Step 6: what a read answers. (An enum takes no ghost field and no model, so that its number fits 64 bits is a clause of each function
 // that answers.)
-#[tactic(auto, unfolding(rules::specs::Table::is_filled, rules::specs::Steps::read_answer, rules::specs::Answers::answer_number, rules::specs::Table::line_of, rules::specs::States::state_number, rules::specs::Table::is_lined))]
+#[tactic(auto, unfolding(rules::specs::Table::is_filled, rules::specs::Steps::read_answer, rules::specs::Answers::answer_number, rules::specs::Table::line_of, rules::specs::States::state_number, rules::specs::Table::empty_state, rules::specs::Table::filled_state, rules::specs::Table::is_lined))]
 pub fn read_answer(r: Record) -> Answer
     ensures value { result ≡ read_answer r }
     ensures result_bound { answer_number result < 2 ^ 64 }

@@ -4,6 +4,7 @@ use Rattle.std.proofs.lemmas.List.{get_or-take, get_or-drop}
 use Rattle.std.proofs.lemmas.List.Folds.{list_all_more}
 use Rattle.std.specs.List.{list_all}
 use Rattle.rules.specs.Bytes.{get64}
+use Rattle.rules.proofs.Places.{get_front, get_part}
 use Rattle.rules.specs.Journal.{entry_size, zeros, kind_at, weight_at, key_at, ticket_at, gaps_zero, picture_zero, picture_place}
 
 abbrev pub all_zero : List ℕ → Bool
@@ -17,18 +18,7 @@ module _ (j : List ℕ) (at : ℕ) where
   byte k inside = get_or-take _ (drop at j) _ 0 inside ∙ get_or-drop at j _ 0
 
   number : (from : ℕ) → from + 8 ≤ entry_size → get64 j (at + from) ≡ get64 cut from
-  unfolding get64
-  number from inside =
-      rw (
-        byte from (omega arith),
-        byte (from + 1) (omega arith),
-        byte (from + 2) (omega arith),
-        byte (from + 3) (omega arith),
-        byte (from + 4) (omega arith),
-        byte (from + 5) (omega arith),
-        byte (from + 6) (omega arith),
-        byte (from + 7) (omega arith),
-      ) (simp add_assoc)
+  number from inside = sym (get_front (drop at j) entry_size from inside ∙ get_part j at from)
 
   zeros_cut : (from n : ℕ) → from + n ≤ length cut → zeros j (at + from) n ≡ all_zero (take n (drop from cut))
   unfolding zeros

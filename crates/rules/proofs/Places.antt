@@ -160,7 +160,7 @@ record_zero n i = simp zero_at
 pub zero_bytes : (n : ℕ) → IsBytes (replicate n 0)
 zero_bytes n = record { below = λ i. rw (zero_at n i) (lit< tt) }
 
-get_part : (t : List ℕ) (a at : ℕ) → get64 (drop a t) at ≡ get64 t (a + at)
+pub get_part : (t : List ℕ) (a at : ℕ) → get64 (drop a t) at ≡ get64 t (a + at)
 unfolding get64
 get_part t a at = simp (get_or-drop, add_assoc)
 
@@ -170,7 +170,7 @@ record_part t m i =
     let e : record_size * (m + i) ≡ record_size * m + record_size * i = omega arith in
     rw e (simp (get_part, add_assoc))
 
-get_front : (t : List ℕ) (n at : ℕ) → at + 8 ≤ n → get64 (take n t) at ≡ get64 t at
+pub get_front : (t : List ℕ) (n at : ℕ) → at + 8 ≤ n → get64 (take n t) at ≡ get64 t at
 unfolding get64
 get_front t n at room =
     let same : (k : ℕ) → k < 8 → get_or (take n t) (at + k) 0 ≡ get_or t (at + k) 0 = λ k small. get_or-take n t (at + k) 0 (omega arith) in

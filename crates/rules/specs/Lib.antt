@@ -2,8 +2,8 @@
 pub mod Bytes
 pub mod Refusals
 pub mod Pass
-pub mod States
 pub mod Table
+pub mod States
 pub mod Answers
 pub mod Steps
 pub mod Calls

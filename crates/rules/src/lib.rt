@@ -92,7 +92,7 @@ pub enum State {
 impl From<u64> for State {
     ghost from_gives = { λ n state. n ≡ state_number state };
 
-    #[tactic(auto, unfolding(crate::specs::States::state_number))]
+    #[tactic(auto, unfolding(crate::specs::States::state_number, crate::specs::Table::empty_state, crate::specs::Table::filled_state))]
     fn from(n: u64) -> State {
         match n {
             0 => State::Free,
@@ -105,7 +105,7 @@ impl From<u64> for State {
 
 impl State {
     // Its number. (No From: that of a very large line does not fit.)
-    #[tactic(auto, unfolding(crate::specs::States::state_number))]
+    #[tactic(auto, unfolding(crate::specs::States::state_number, crate::specs::Table::empty_state, crate::specs::Table::filled_state))]
     pub fn number(self) -> u64
         requires { state_number self < 2 ^ 64 }
         ensures { result ≡ state_number self }

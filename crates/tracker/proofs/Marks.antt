@@ -21,13 +21,13 @@ use Rattle.rules.specs.Table.{is_lined, line_of, is_on, is_used, lowest_unused}
 use Rattle.tracker.specs.Claiming.{below}
 use Rattle.tracker.specs.Marks.{Unmarked, Marks, lowest_unmarked}
 
-pub zeros_unmarked : (n : ℕ) → Unmarked (replicate n false)
-zeros_unmarked n = record { clear = zero_at n }
+pub none_marked : (n : ℕ) → Unmarked (replicate n false)
+none_marked n = record { clear = false_at n }
   where
-    zero_at : (n i : ℕ) → get_or {A = Bool} (replicate n false) i false ≡ false
-    zero_at zero i = refl
-    zero_at (suc n) zero = refl
-    zero_at (suc n) (suc i) = zero_at n i
+    false_at : (n i : ℕ) → get_or {A = Bool} (replicate n false) i false ≡ false
+    false_at zero i = refl
+    false_at (suc n) zero = refl
+    false_at (suc n) (suc i) = false_at n i
 
 pub marks_none : (f : ℕ → Record) (used : List Bool) → Unmarked used → Marks f 0 used
 unfolding is_used any_of pass

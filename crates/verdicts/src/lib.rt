@@ -29,7 +29,7 @@ pub fn sizes_good(table: &[u8], lines: &[u8]) -> bool
 // ---- order
 
 // Whether a record is in order.
-#[tactic(auto, unfolding(rules::specs::Table::record_in_order, rules::specs::Table::is_tracked, rules::specs::Table::is_lined, rules::specs::Table::is_zero, rules::specs::States::state_number))]
+#[tactic(auto, unfolding(rules::specs::Table::record_in_order, rules::specs::Table::is_tracked, rules::specs::Table::is_lined, rules::specs::Table::is_zero, rules::specs::States::state_number, rules::specs::Table::empty_state, rules::specs::Table::filled_state))]
 fn record_in_order(r: Record, total: u64, lines: usize) -> bool
     requires { lines ≤ most_records }
     ensures { result ≡ record_in_order total lines r }
