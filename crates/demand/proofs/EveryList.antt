@@ -130,7 +130,7 @@ own_holds {m} c lent t stale h same fits =
         let (accepted, after) = made_accepted c lent t stale k fits e in
         rw after (call_holds c (memory_of lent) t stale k fits accepted)
 
-list_holds : {m end : Memory} {es : List Event} (t : Truth) (stale : ℕ → ℕ) → Holds m t stale → Follows m es end →
+pub list_holds : {m end : Memory} {es : List Event} (t : Truth) (stale : ℕ → ℕ) → Holds m t stale → Follows m es end →
     Holds end (replay t (told es)) (stale_from stale es)
 unfolding told replay heard_truth stale_from event_stale
 list_holds t stale h nothing = h

@@ -11,7 +11,7 @@ use lib.Dec.{eqb}
 use borrow.Author.Tests.{eq-eqb}
 use Rattle.rules.specs.declared.Record.{Record}
 use Rattle.std.specs.Prelude.{None}
-use Rattle.rules.specs.Bytes.{get64, line_count}
+use Rattle.rules.specs.Bytes.{IsBytes, get64, line_count}
 use Rattle.std.specs.Prelude.{if◌then◌else◌}
 use Rattle.rules.specs.Table.{Memory, key_record, places, size, with_lines}
 use Rattle.rules.specs.Answers.{is_refused, number_of, completion_number}
@@ -19,17 +19,18 @@ use Rattle.rules.specs.Calls.{read_outcome, fill_outcome, fresh_outcome, host_le
 use Rattle.rules.specs.Numbers.{TellsLine}
 use Rattle.rules.specs.Replay.{Filled, filled_with, Truth, unheard, at, update_stale}
 use Rattle.rules.specs.Sample.{gauge_of, numbers, three_records, sample_picture, host_start}
-use Rattle.rules.proofs.Words.{IsBytes}
 use Rattle.rules.proofs.Changes.{at_same}
 use Rattle.rules.proofs.Answered.{host_answered_line}
-use Rattle.demand.specs.List.{Call, read, update, fill, age, call_outcome, key_of, Lent, memory_of, host_made, made, heard, Event, happened, event, told, rattle, host, Follows, nothing, own, elsewhere, heard_truth, replay, accepted_stale, event_stale, stale_up_to, updated, next_serial}
+use Rattle.demand.specs.List.{Call, read, update, fill, age, call_outcome, key_of, Lent, memory_of, host_made, made, heard, Event, happened, event, told, rattle, host, Follows, nothing, own, elsewhere, heard_truth, replay, accepted_stale, event_stale, stale_up_to, updated, next_serial, ticket_put}
 use Rattle.demand.specs.Demand3.{Demand3, LevelledBound, StaysInOrder, HeavyHittersTracked, GivenSince, TicketsGivenSince}
 use Rattle.demand.specs.Sample.{sample_calls}
 use Rattle.demand.proofs.Computing.{computing}
 use Rattle.demand.proofs.Refusals.{refused_leaves_lent, small_number_leaves}
-use Rattle.demand.proofs.Peek.{ticket_put, peek_leaves_lent, peek_counts_nothing}
+use Rattle.demand.proofs.SampleList.{eight_bytes}
+use Rattle.demand.proofs.Peek.{peek_leaves_lent, peek_counts_nothing}
 use Rattle.demand.proofs.EveryList.{demand3, late_fills_refused, from_host_fresh}
 use Rattle.demand.proofs.Since.{given_since}
+use Rattle.demand.proofs.Overtaken.{overtaken_refused}
 
 -- ---- one clause missed
 -- class 7 and class 8 tracked, with one line and one free record; the rest of what the examples share
@@ -243,9 +244,6 @@ wide_filled = (call_outcome (fill largest (sample_picture 1) 1) (call_outcome (r
 abbrev wide_end : Memory
 wide_end = (call_outcome (update largest 65535) wide_filled).after
 
-abbrev eight_bytes : List ℕ
-eight_bytes = replicate 8 170
-
 wide_list : Follows cleared wide_events wide_end
 unfolding computing
 wide_list =
@@ -333,7 +331,28 @@ pub late_refused : (picture : List ℕ) → is_refused (fill_outcome late_end 5 
 unfolding computing
 late_refused picture = late_fills_refused (dirty 2) late_end late_events refl late_list 5 picture 1 (omega arith)
 
--- an accepted update of the class is seen, refused ones and those of others are not
+-- the same in the words of the host: told wanted with ticket 1, then the update, then whatever else
+pub late_overtaken : (picture : List ℕ) → is_refused (fill_outcome late_end 5 picture 1).answer ≡ true
+unfolding computing
+late_overtaken picture =
+    overtaken_refused (dirty 2) cleared late_end (happened (update 9 1) false 0 ∷ [])
+    (happened (update 5 1) false 1
+    ∷ happened (fill 5 (sample_picture 1) 1) true 2
+    ∷ happened (read 5 1) false 2
+    ∷ happened (fill 5 (sample_picture 2) 2) false 2
+    ∷ happened (update 9 1) false 2
+    ∷ [])
+    5 3 0 1 picture refl (omega arith)
+    (own (update 9 1) (rattle _) refl (omega arith) nothing)
+    refl
+    (own (update 5 1) (rattle _) refl (omega arith)
+    (own (fill 5 (sample_picture 1) 1) (rattle _) refl (omega arith)
+    (own (read 5 1) (rattle _) refl (omega arith)
+    (own (fill 5 (sample_picture 2) 2) (rattle _) refl (omega arith)
+    (own (update 9 1) (rattle _) refl (omega arith)
+    nothing)))))
+    refl
+
 -- class 7, never updated, filled at the last place on the second line
 abbrev last_events : List Event
 last_events =
@@ -389,6 +408,7 @@ pub next_found : (m : Memory) → (next_serial (happened age false 3 ∷ happene
 unfolding computing
 next_found m = (refl, refl)
 
+-- an accepted update of the class is seen, refused ones and those of others are not
 pub updates_seen :
     (updated 7 (happened (update 7 1) false 0 ∷ []) ≡ true)
     × (updated 7 (happened (read 7 1) false 0 ∷ happened (update 7 1) false 0 ∷ []) ≡ true)

@@ -3,6 +3,7 @@ pub mod Refusals
 pub mod Peek
 pub mod EveryList
 pub mod Since
+pub mod Overtaken
 pub mod SampleList
 pub mod Idle
 pub mod Examples

@@ -2,19 +2,12 @@
 use Prim.Native.Nat.{ℕ}
 use mathlib.Core.Path.{◌≡◌, refl, ap}
 use mathlib.Core.Bool.{Bool, true, false}
-use Rattle.rules.specs.Answers.{Reply}
-use Rattle.rules.specs.Calls.{read_outcome, HostMemory, read_lent, put_ticket, held, stored}
+use Rattle.rules.specs.Calls.{read_outcome, HostMemory, held, stored}
 use Rattle.rules.specs.Replay.{Truth, read_truth}
 use Rattle.rules.proofs.Places.{gauge_kept}
 use Rattle.rules.proofs.Peek.{peek_leaves}
 use Rattle.rules.proofs.Refusals.{hosted_keeps, read_hosted_puts}
-use Rattle.demand.specs.List.{read, call_outcome, host_made, Lent, rattle, host, made, heard, accepted_truth, heard_truth}
-use Rattle.demand.proofs.Refusals.{HoldsBytes}
-
--- the bytes that a host lends for a ticket get that of a wanted
-unfoldable pub ticket_put : Reply → Lent → Lent
-ticket_put a (rattle m) = rattle m
-ticket_put a (host h) = host (read_lent h.memory (put_ticket h.ticket a))
+use Rattle.demand.specs.List.{read, call_outcome, host_made, Lent, rattle, host, made, HoldsBytes, ticket_put, heard, accepted_truth, heard_truth}
 
 -- | and changes nothing
 -- of table, gauge and lines

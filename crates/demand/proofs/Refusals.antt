@@ -8,12 +8,11 @@ use Rattle.rules.specs.Table.{Memory}
 use borrow.Author.Tests.{lt-ltb}
 use lib.ListN.{length}
 use Rattle.rules.specs.Answers.{is_refused, number_of, Told}
-use Rattle.rules.specs.Bytes.{gauge_size}
+use Rattle.rules.specs.Bytes.{IsBytes, gauge_size}
 use Rattle.rules.specs.Calls.{HostMemory, HostRead, read_lent, held, stored}
-use Rattle.rules.proofs.Words.{IsBytes}
 use Rattle.rules.proofs.Places.{gauge_kept}
 use Rattle.rules.proofs.Refusals.{read_leaves, update_leaves, fill_leaves, age_leaves, hosted_leaves, read_hosted_leaves, every_told}
-use Rattle.demand.specs.List.{read, update, fill, age, Call, call_outcome, hosted_else, host_made, Lent, rattle, host, made}
+use Rattle.demand.specs.List.{read, update, fill, age, Call, call_outcome, hosted_else, host_made, Lent, rattle, host, made, HoldsBytes}
 
 -- ---- a Rattle caller's
 pub refused_leaves_all : (c : Call) (m : Memory) → is_refused (call_outcome c m).answer ≡ true → (call_outcome c m).after ≡ m
@@ -37,11 +36,6 @@ host_leaves seen (fill key picture ticket) h put e =
 host_leaves seen age h put e = (hosted_leaves _ h.memory seen (refused_leaves_all age (held h.memory)) put e, refl)
 
 -- ---- anybody's
--- a host's gauge is bytes
-abbrev pub HoldsBytes : Lent → Type 0
-HoldsBytes (rattle m) = Unit {0}
-HoldsBytes (host h) = IsBytes h.memory.gauge
-
 pub refused_leaves_lent : (c : Call) (lent : Lent) → HoldsBytes lent → is_refused (made c lent).answer ≡ true → (made c lent).after ≡ lent
 unfolding made stored held
 refused_leaves_lent c (rattle m) bytes e = ap rattle (refused_leaves_all c m e)

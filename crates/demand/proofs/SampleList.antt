@@ -23,7 +23,8 @@ by_rattle : {m end : Memory} {es : List Event} (c : Call) → key_of c < 2 ^ 64 
 unfolding computing
 by_rattle {m} c fits = own c (rattle m) refl fits
 
-abbrev eight_bytes : List ℕ
+-- what a host lends a read for a ticket
+abbrev pub eight_bytes : List ℕ
 eight_bytes = replicate 8 170
 
 pub sample_follows : Follows (fresh_outcome sample_lent).after sample_events sample_end

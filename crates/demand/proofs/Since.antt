@@ -1,5 +1,5 @@
--- The serial never falls in a list, and a call gives one ticket at most; and the ticket of a filled line was given by the last accepted
--- update of its class, if any, or by a later call. Assumes nothing.
+-- A call gives one ticket at most, and the serial never falls; and the ticket of a filled line was given by the last accepted update of
+-- its class, if any, or by a later call. Assumes nothing.
 use Prim.Native.Nat.{ℕ, ◌≤◌, ◌<◌, ◌^◌}
 use mathlib.Core.Path.{◌≡◌, refl, ap}
 use mathlib.Core.Bool.{Bool, true, false, ◌||◌, false≢true}
@@ -32,27 +32,14 @@ module _ (c : Call) (lent : Lent) (t : Truth) (stale : ℕ → ℕ) (h : Holds (
   refused_gives_none : is_refused (made c lent).answer ≡ true → (memory_of (made c lent).after).gauge.serial ≡ (memory_of lent).gauge.serial
   refused_gives_none e = ap (λ (m : Memory). m.gauge.serial) (refused_stays c lent t stale h e)
 
-  own_grows : (memory_of lent).gauge.serial ≤ (memory_of (made c lent).after).gauge.serial
-  own_grows = go (is_refused (made c lent).answer) refl
+  own_grows : {m : Memory} → memory_of lent ≡ m → m.gauge.serial ≤ (memory_of (made c lent).after).gauge.serial
+  own_grows same = omega (arith, ap (λ (m : Memory). m.gauge.serial) same, go (is_refused (made c lent).answer) refl)
     where
       go : (b : Bool) → is_refused (made c lent).answer ≡ b → (memory_of lent).gauge.serial ≤ (memory_of (made c lent).after).gauge.serial
       go true e = omega (arith, refused_gives_none e)
       go false e = rw (made_accepted c lent t stale h fits e).1 (serial_grows c (memory_of lent)).0
 
 -- ---- the list
-pub list_grows : {m end : Memory} {es : List Event} (t : Truth) (stale : ℕ → ℕ) → Holds m t stale → Follows m es end →
-    m.gauge.serial ≤ end.gauge.serial
-list_grows t stale h nothing = omega arith
-list_grows t stale h (own c lent same fits rest) =
-    let k : Holds (memory_of lent) t stale = rw same h in
-    omega (
-      arith,
-      ap (λ (m : Memory). m.gauge.serial) same,
-      own_grows c lent t stale k (omega arith),
-      list_grows _ _ (own_holds c lent t stale h same (omega arith)) rest,
-    )
-list_grows t stale h (elsewhere c lent e rest) = list_grows t stale h rest
-
 -- what the next call finds is what the memory has
 next_finds : {m end : Memory} {es : List Event} → Follows m es end → next_serial es end ≡ m.gauge.serial
 unfolding next_serial
@@ -92,13 +79,12 @@ unfolding stale_from event_stale
 stale_stays t stale key least h nothing low was = was
 stale_stays {m} t stale key least h (own c lent same fits rest) low was =
     let k : Holds (memory_of lent) t stale = rw same h in
-    let grows : m.gauge.serial ≤ (memory_of (made c lent).after).gauge.serial =
-    omega (arith, ap (λ (m : Memory). m.gauge.serial) same, own_grows c lent t stale k (omega arith)) in
+    let grows = own_grows c lent t stale k (omega arith) same in
     stale_stays _ _ key least (own_holds c lent t stale h same (omega arith)) rest (omega arith)
     (event_either stale c (is_refused (made c lent).answer) m key least low was)
 stale_stays {m} t stale key least h (elsewhere c lent e rest) low was = stale_stays t _ key least h rest low was
 
-stale_updated : {m end : Memory} {es : List Event} (t : Truth) (stale : ℕ → ℕ) (key : ℕ) → Holds m t stale → Follows m es end →
+pub stale_updated : {m end : Memory} {es : List Event} (t : Truth) (stale : ℕ → ℕ) (key : ℕ) → Holds m t stale → Follows m es end →
     updated key es ≡ true → m.gauge.serial ≤ stale_from stale es key
 unfolding stale_from updated event_stale updates
 stale_updated t stale key h nothing e = absurd (false≢true e)
@@ -110,7 +96,7 @@ stale_updated {m} t stale key h (own {es = es} c lent same fits rest) e =
     k = rw same h
 
     grows : m.gauge.serial ≤ (memory_of (made c lent).after).gauge.serial
-    grows = omega (arith, ap (λ (m : Memory). m.gauge.serial) same, own_grows c lent t stale k (omega arith))
+    grows = own_grows c lent t stale k (omega arith) same
 
     -- it is here, or later
     go : (b : Bool) → updates key (event c (is_refused (made c lent).answer) m) ≡ b →

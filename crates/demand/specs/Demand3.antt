@@ -1,5 +1,5 @@
 -- What demand 3 claims of the memory that a list leaves, the replay of the list and its events, and the other claims after such a list.
-use Rattle.std.specs.Prelude.{ℕ, ◌+◌, ◌*◌, ◌≤◌, ◌<◌, ◌≡◌, List, ◌∷◌, ◌++◌, true, false, ◌≢◌}
+use Rattle.std.specs.Prelude.{ℕ, ◌+◌, ◌*◌, ◌^◌, ◌≤◌, ◌<◌, ◌≡◌, List, ◌∷◌, ◌++◌, true, false, ◌≢◌}
 use Rattle.std.proofs.Math.Option.{some}
 use Rattle.std.specs.Prelude.{Ok}
 use Rattle.std.specs.Prelude.{None}
@@ -7,7 +7,8 @@ use Rattle.rules.specs.Bytes.{line_at}
 use Rattle.rules.specs.Table.{Memory, is_tracked, is_unlined, is_lined, filled_state, key_record, places, size}
 use Rattle.rules.specs.Answers.{is_refused}
 use Rattle.rules.specs.Steps.{levelled_sum}
-use Rattle.rules.specs.Calls.{plain_verdict, fill_outcome, fresh_outcome}
+use Rattle.rules.specs.declared.Answer.TheVariants.{Wanted}
+use Rattle.rules.specs.Calls.{plain_verdict, read_outcome, fill_outcome, fresh_outcome}
 use Rattle.rules.specs.Replay.{filled_with, Truth, unheard}
 use Rattle.demand.specs.List.{Event, told, Follows, replay, stale_up_to, updated, next_serial}
 
@@ -62,6 +63,7 @@ pub record GivenSince (es : List Event) (end : Memory) (key ticket : ℕ) : Type
   pub given : (giver.serial < ticket) × (ticket ≤ next_serial later end)
   pub none_later : updated key later ≡ false
 
+-- (The record's ticket is that of the picture shown: `latest`.)
 abbrev pub TicketsGivenSince : Memory → Truth → List Event → Type 0
 TicketsGivenSince m truth es =
     (i n : ℕ) → i < size m → (places m i).state ≡ filled_state n → GivenSince es m (places m i).key (places m i).ticket
@@ -71,6 +73,16 @@ TicketsGivenSince m truth es =
 abbrev pub LateFillsRefused : Memory → Truth → List Event → Type 0
 LateFillsRefused m truth es =
     (key : ℕ) (picture : List ℕ) (ticket : ℕ) → ticket ≤ stale_up_to es key → is_refused (fill_outcome m key picture ticket).answer ≡ true
+
+-- | A sorter is told wanted, fetches, and meanwhile the picture changes. (Document 02)
+-- After a list a read of a class tells wanted, with a ticket; the list goes on, and an update of the class is accepted in it. From then
+-- on a fill that brings this ticket is refused.
+abbrev pub OvertakenRefused : Type 0
+OvertakenRefused =
+    (m told end : Memory) (es later : List Event) (key w n ticket : ℕ) (picture : List ℕ) → (fresh_outcome m).answer ≡ Ok tt → key < 2 ^ 64 →
+    Follows (fresh_outcome m).after es told → (read_outcome told key w).answer ≡ Ok (Wanted n ticket) →
+    Follows (read_outcome told key w).after later end → updated key later ≡ true →
+    is_refused (fill_outcome end key picture ticket).answer ≡ true
 
 -- | The list starts from a fresh table and gauge; the lines may hold any bytes.
 -- Fresh accepts every K from 1 to 1,024 and every C below K (`fresh_accepts`), so m stands for all that a list can start with.

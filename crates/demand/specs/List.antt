@@ -5,7 +5,8 @@ use Rattle.rules.specs.Answers.{Reply}
 use Rattle.rules.specs.Table.{Memory}
 use Rattle.rules.specs.Answers.{is_refused}
 use Rattle.rules.specs.Steps.{Outcome, outcome}
-use Rattle.rules.specs.Calls.{held, hosted, HostRead, read_lent, hosted_read, age_outcome, read_outcome, update_outcome, fill_outcome}
+use Rattle.rules.specs.Bytes.{IsBytes}
+use Rattle.rules.specs.Calls.{held, hosted, HostRead, read_lent, put_ticket, hosted_read, age_outcome, read_outcome, update_outcome, fill_outcome}
 use Rattle.rules.specs.Replay.{Truth, age_truth, read_truth, update_truth, fill_truth, update_stale}
 
 -- ---- a call
@@ -51,6 +52,16 @@ host_made age = hosted_else (call_outcome age)
 unfoldable pub made : Call → Lent → Outcome Reply Lent
 made c (rattle m) = outcome (call_outcome c m).answer (rattle (call_outcome c m).after)
 made c (host h) = outcome (host_made c h).answer (host (host_made c h).after)
+
+-- what a host lends for a gauge is bytes
+abbrev pub HoldsBytes : Lent → Type 0
+HoldsBytes (rattle m) = Unit {0}
+HoldsBytes (host h) = IsBytes h.memory.gauge
+
+-- the bytes that a host lends for a ticket get that of a wanted; nothing else changes
+unfoldable pub ticket_put : Reply → Lent → Lent
+ticket_put a (rattle m) = rattle m
+ticket_put a (host h) = host (read_lent h.memory (put_ticket h.ticket a))
 
 -- ---- the list
 -- | The replay is fed each call's kind, key, weight and picture, and whether it was refused.

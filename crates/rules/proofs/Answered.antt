@@ -17,7 +17,7 @@ use Rattle.std.specs.Prelude.{Ok, Err}
 use Rattle.rules.specs.Pass.{Found}
 use Rattle.std.specs.Prelude.{Some, None}
 use Rattle.rules.specs.declared.Answer.TheVariants.{Aged, Changed, Unknown, Stored, Passed, Hit, Wanted}
-use Rattle.rules.specs.Bytes.{number_size, get64, line_count}
+use Rattle.rules.specs.Bytes.{IsBytes, number_size, get64, line_count}
 use Rattle.std.specs.Prelude.{if◌then◌else◌}
 use Rattle.rules.specs.Table.{Memory, is_tracked, is_lined, is_filled, line_of, empty_state, with_state, with_ticket, heated, aged_record, half_down, new_record, unlined, on_empty_line, has_key, key_record, free_record, victim, hotter, coldest_lined, lowest_unused, most_total, places, size, line_total, with_table, with_gauge, write}
 use Rattle.rules.specs.Answers.{Reply, answer_number, number_of, is_refused, Told, Said, said, values_of, answer_said}
@@ -26,7 +26,7 @@ use Rattle.rules.specs.Steps.{Outcome, aged_gauge, aged, next_ticket, ticketed, 
 use Rattle.rules.specs.Calls.{most_weight, serial_limit, order_good, verdict, unless, leaving, read_verdict, read_outcome, held, gauge_test, hosted, HostRead, number_test, put_ticket, hosted_read, exported_read}
 use Rattle.rules.specs.Numbers.{refusal, standing, read_said, NamesLine, TellsLine}
 use Rattle.rules.specs.Replay.{at}
-use Rattle.rules.proofs.Words.{IsBytes, get-put64_same}
+use Rattle.rules.proofs.Words.{get-put64_same}
 use Rattle.rules.proofs.Places.{IsRecord}
 use Rattle.rules.proofs.Searches.{first_at, first_nowhere, first_found}
 use Rattle.rules.proofs.Finds.{key_found, free_found, victim_found, coldest_found}

@@ -10,13 +10,12 @@ use lib.Dec.{ltb}
 use Rattle.rules.specs.declared.Record.{Record}
 use Rattle.rules.specs.Pass.{Found}
 use Rattle.std.specs.Prelude.{Some, None}
-use Rattle.rules.specs.Bytes.{line_at}
+use Rattle.rules.specs.Bytes.{IsBytes, line_at}
 use Rattle.std.specs.Prelude.{if◌then◌else◌}
 use Rattle.rules.specs.Table.{Memory, is_lined, line_of, empty_state, filled_state, with_state, with_ticket, with_serial, unlined, on_empty_line, lowest_unused, is_used, coldest_lined, hottest_unlined, hotter, places, size, line_total, with_table, with_gauge, write}
 use Rattle.rules.specs.Steps.{aged_gauge, aged, next_ticket, ticketed, renew, give_line, hand_over, replace_coldest, promote, admit, demote_for, demote}
 use Rattle.rules.specs.Calls.{serial_limit, sizes_good}
 use Rattle.rules.specs.Replay.{Truth, at, age_truth, update_stale}
-use Rattle.rules.proofs.Words.{IsBytes}
 use Rattle.rules.proofs.Places.{IsRecord, record_at_is}
 use Rattle.rules.proofs.Searches.{clash, lowest_fails, lowest_before}
 use Rattle.rules.proofs.Finds.{IsAt, coldest_found, coldest_missing, hottest_found, hottest_missing}

@@ -257,10 +257,17 @@ abbrev cleared : ℕ → ℕ → Memory
 cleared k c = record { table = replicate (record_size * k) 0; gauge = gauge_of 0 0 0; lines = replicate (line_size * c) 0 }
 
 -- a line that is not there
-pub names_bite : (ticket : ℕ) → (¬ NamesLine 1 (Ok (Hit 1))) × (¬ NamesLine 1 (Ok (Wanted 1 ticket))) × (¬ NamesLine 1 (Ok (Wanted 0 (2 ^ 64))))
+pub names_bite : (ticket : ℕ) →
+    (¬ NamesLine 1 (Ok (Hit 1)))
+    × (¬ NamesLine 1 (Ok (Wanted 1 ticket)))
+    × (¬ NamesLine 1024 (Ok (Hit 1023)))
+    × (¬ NamesLine 1024 (Ok (Wanted 1023 ticket)))
+    × (¬ NamesLine 1 (Ok (Wanted 0 (2 ^ 64))))
 names_bite ticket = (
   λ d. omega (arith, (d.hit 1 refl).0),
   λ d. omega (arith, (d.wanted 1 ticket refl).0),
+  λ d. omega (arith, (d.hit 1023 refl).1),
+  λ d. omega (arith, (d.wanted 1023 ticket refl).1),
   λ d. omega (arith, (d.wanted 0 (2 ^ 64) refl).2),
 )
 
@@ -316,8 +323,7 @@ pub fill_of_any_ticket : (a b c d e f g h : ℕ) →
 unfolding computing
 fill_of_any_ticket a b c d e f g h = refl
 
--- passed over: a kind of 0; byte 1, byte 7 or the picture's last byte of a read; a fill's weight; an aging's weight or key; byte 80 or
--- 87 of a read, an update or an aging
+-- passed over: a kind of 0; byte 1, byte 7 or the picture's last byte of a read; a fill's weight; an aging's weight or key
 abbrev Unknown : List ℕ → Type 0
 Unknown j = entry_at j 0 ≡ decoded (Some (Err UnknownForm)) 88
 
@@ -329,11 +335,8 @@ pub unknown_forms :
     × Unknown ((3 ∷ 0 ∷ 0 ∷ 1 ∷ []) ++ replicate 84 0)
     × Unknown ((4 ∷ 0 ∷ 1 ∷ []) ++ replicate 85 0)
     × Unknown ((4 ∷ []) ++ replicate 7 0 ++ (1 ∷ []) ++ replicate 79 0)
-    × Unknown ((1 ∷ []) ++ replicate 79 0 ++ (1 ∷ []) ++ replicate 7 0) × Unknown ((1 ∷ []) ++ replicate 86 0 ++ (1 ∷ []))
-    × Unknown ((2 ∷ []) ++ replicate 79 0 ++ (1 ∷ []) ++ replicate 7 0) × Unknown ((2 ∷ []) ++ replicate 86 0 ++ (1 ∷ []))
-    × Unknown ((4 ∷ []) ++ replicate 79 0 ++ (1 ∷ []) ++ replicate 7 0) × Unknown ((4 ∷ []) ++ replicate 86 0 ++ (1 ∷ []))
 unfolding computing
-unknown_forms = (refl, refl, refl, refl, refl, refl, refl, refl, refl, refl, refl, refl, refl)
+unknown_forms = (refl, refl, refl, refl, refl, refl, refl)
 
 -- | 8 now means 1 to 87 bytes left (document 02)
 pub short_end_stayed_at :

@@ -10,13 +10,12 @@ use lib.ListN.{length, replicate, length-replicate}
 use Rattle.rules.specs.declared.Record.{Record}
 use Rattle.rules.specs.Answers.{Completion}
 use Rattle.std.specs.Prelude.{Ok, Err}
-use Rattle.rules.specs.Bytes.{get64, record_size, record_count, line_size, line_at, line_count, gauge_size, gauge_at}
+use Rattle.rules.specs.Bytes.{IsBytes, get64, record_size, record_count, line_size, line_at, line_count, gauge_size, gauge_at}
 use Rattle.rules.specs.Pass.{sum_where}
 use Rattle.rules.specs.Table.{Memory, is_free, is_zero, filled_state, places, size, line_total, fresh_gauge, fresh_memory}
 use Rattle.rules.specs.Steps.{Outcome, outcome, level}
 use Rattle.rules.specs.Calls.{most_records, sizes_good, sizes_test, OfSizes, verdict, unless, fresh_outcome, host_lent, held}
 use Rattle.rules.specs.Replay.{unheard}
-use Rattle.rules.proofs.Words.{IsBytes}
 use Rattle.rules.proofs.Places.{record_zero, zero_bytes}
 use Rattle.rules.proofs.Chosen.{where_most}
 use Rattle.rules.proofs.Verdicts.{first_passes}

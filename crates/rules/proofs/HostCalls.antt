@@ -4,21 +4,19 @@
 use Prim.Native.Nat.{ℕ}
 use mathlib.Core.Path.{◌≡◌, refl}
 use mathlib.Core.Bool.{Bool, true, false}
-use mathlib.Core.List.{List, [], ◌∷◌}
+use mathlib.Core.List.{List}
 use mathlib.Core.Logic.{◌≢◌}
 use native.Mathlib.Omega.{arith}
 use borrow.Author.Tests.{eqb-true, ne_eqb}
-use lib.ListN.{length, replicate}
+use lib.ListN.{length}
 use lib.Dec.{eqb}
 use Rattle.std.specs.Prelude.{Ok}
-use Rattle.rules.specs.declared.Refusal.TheVariants.{WrongSizes}
 use Rattle.rules.specs.Refusals.{number}
-use Rattle.rules.specs.Bytes.{number_size, get64, put64, gauge_size, gauge_at}
+use Rattle.rules.specs.Bytes.{IsBytes, number_size, get64, gauge_size, gauge_at}
 use Rattle.rules.specs.Table.{Memory, fresh_gauge, fresh_memory}
 use Rattle.rules.specs.Answers.{Reply, number_of, completion_number}
-use Rattle.rules.specs.Steps.{Outcome, outcome, levelled_sum}
-use Rattle.rules.specs.Calls.{must, sizes_good, order_good, verdict, unless, sizes_test, order_test, plain_verdict, fresh_outcome, levelled_outcome, HostRead, hosted_read, exported_read, HostMemory, host_lent, held, stored, gauge_test, hosted, exported_fresh, number_test, put_levels, exported_sum}
-use Rattle.rules.proofs.Words.{IsBytes}
+use Rattle.rules.specs.Steps.{Outcome, outcome}
+use Rattle.rules.specs.Calls.{sizes_good, order_good, verdict, unless, sizes_test, order_test, plain_verdict, fresh_outcome, levelled_outcome, HostRead, hosted_read, exported_read, HostMemory, held, stored, gauge_test, hosted, exported_fresh, fresh_told, number_test, put_levels, exported_sum, sum_told}
 use Rattle.rules.proofs.Places.{gauge_zeroed, gauge_kept}
 
 module _ (h : HostMemory) where
@@ -28,18 +26,11 @@ module _ (h : HostMemory) where
   abbrev good : Bool
   good = sizes_good h.table h.lines
 
-  -- | Fresh: every table byte and the gauge are zero. The lines keep their bytes. .. Fresh gives only 1.
-  abbrev zeroed : HostMemory
-  zeroed = host_lent (replicate (length h.table) 0) (replicate gauge_size 0) h.lines
-
-  abbrev fresh_told : Outcome ℕ HostMemory
-  fresh_told = unless (verdict (gauge_test h ∷ sizes_test (held h) ∷ [])) (λ cause. outcome (number cause) h) (outcome 0 zeroed)
-
-  pub host_fresh : IsBytes h.gauge → exported_fresh h ≡ fresh_told
+  pub host_fresh : IsBytes h.gauge → exported_fresh h ≡ fresh_told h
   unfolding exported_fresh hosted fresh_outcome verdict gauge_test sizes_test unless completion_number number held stored fresh_memory
   host_fresh bytes = go sized good refl refl
     where
-      go : (a b : Bool) → sized ≡ a → good ≡ b → exported_fresh h ≡ fresh_told
+      go : (a b : Bool) → sized ≡ a → good ≡ b → exported_fresh h ≡ fresh_told h
       go false b ea eb = rw ea
       go true false ea eb = rw (ea, eb, gauge_kept h.gauge bytes)
       go true true ea eb = rw (ea, eb, gauge_zeroed h.gauge (eqb-true (length h.gauge) gauge_size ea))
@@ -56,18 +47,12 @@ module _ (h : HostMemory) where
       go true false ea eb = absurd (omega (arith, rw (ea, eb) at told))
       go true true ea eb = (rw eb, rw (ea, eb, gauge_zeroed h.gauge (eqb-true (length h.gauge) gauge_size ea)))
 
-  -- | Refusals 1 and 3.
   module _ (sum : List ℕ) where
-    abbrev sum_told : Outcome ℕ (List ℕ)
-    sum_told =
-        unless (verdict (gauge_test h ∷ must (eqb (length sum) 8) WrongSizes ∷ sizes_test (held h) ∷ order_test (held h) ∷ [])) (λ cause. outcome (number cause) sum)
-        (outcome 0 (put64 sum 0 (levelled_sum (held h))))
-
-    pub host_sum : exported_sum h sum ≡ sum_told
+    pub host_sum : exported_sum h sum ≡ sum_told h sum
     unfolding exported_sum levelled_outcome plain_verdict verdict gauge_test number_test sizes_test order_test unless put_levels number held
     host_sum = go sized (eqb (length sum) number_size) good (order_good (held h)) refl refl refl refl
       where
-        go : (a b c d : Bool) → sized ≡ a → eqb (length sum) number_size ≡ b → good ≡ c → order_good (held h) ≡ d → exported_sum h sum ≡ sum_told
+        go : (a b c d : Bool) → sized ≡ a → eqb (length sum) number_size ≡ b → good ≡ c → order_good (held h) ≡ d → exported_sum h sum ≡ sum_told h sum
         go false b c d ea eb ec ed = rw ea
         go true false c d ea eb ec ed = rw (ea, eb)
         go true true false d ea eb ec ed = rw (ea, eb, ec)

@@ -8,13 +8,12 @@ use mathlib.Core.Logic.{◌≢◌}
 use mathlib.Core.Option.{Option, some}
 use Rattle.rules.specs.declared.Record.{Record}
 use Rattle.rules.specs.declared.Gauge.{Gauge}
-use Rattle.rules.specs.Bytes.{line_at}
+use Rattle.rules.specs.Bytes.{IsBytes, line_at}
 use Rattle.rules.specs.Pass.{sum_where, count_where}
 use Rattle.rules.specs.Table.{Memory, line_of, filled_state, is_zero, is_used, most_total, places, size, line_total}
 use Rattle.rules.specs.Steps.{level}
 use Rattle.rules.specs.Calls.{sizes_good}
 use Rattle.rules.specs.Replay.{Filled, filled_with, Truth}
-use Rattle.rules.proofs.Words.{IsBytes}
 
 -- Of n records f, c lines, the gauge and the truth.
 pub record Tracks (f : ℕ → Record) (n c : ℕ) (g : Gauge) (t : Truth) : Type 0 where

@@ -7,14 +7,13 @@ use native.Mathlib.Decide.{ℕ_discrete}
 use native.Mathlib.Omega.{arith}
 use lib.ListN.{length}
 use Rattle.rules.specs.declared.Record.{Record}
-use Rattle.rules.specs.Bytes.{record_size, record_count, line_size, line_count, line_at, put_line}
+use Rattle.rules.specs.Bytes.{IsBytes, record_size, record_count, line_size, line_count, line_at, put_line}
 use Rattle.rules.specs.Table.{Memory, aged_record, half_down, half_up, places, size, with_table, with_gauge, write}
 use Rattle.rules.specs.Steps.{aged}
 use Rattle.rules.specs.Calls.{sizes_good, most_records}
 use Rattle.rules.specs.Replay.{at}
 use borrow.Author.Tests.{eqb-true, leb-true, ltb-true}
 use Rattle.rules.proofs.Searches.{both}
-use Rattle.rules.proofs.Words.{IsBytes}
 use Rattle.rules.proofs.Places.{IsRecord, length-put_record, record_count_put, put_record_bytes, record_same, record_other, change_all_length, change_all_count, change_all_bytes, change_all_at, line_same, line_other}
 use Rattle.rules.proofs.Changes.{at_same, at_other}
 

@@ -1,13 +1,14 @@
 -- The number and the values of every answer but a read's are those of the specification, by the cases of the tests, of what is found,
 -- or of a journal record's kind. Assumes nothing.
-use Prim.Native.Nat.{ℕ, zero, suc, ◌+◌, ◌-◌, ◌%◌, ◌<◌}
-use mathlib.Core.Path.{◌≡◌, refl}
+use Prim.Native.Nat.{ℕ, zero, suc, ◌+◌, ◌-◌, ◌%◌, ◌<◌, ◌≤◌}
+use mathlib.Core.Path.{◌≡◌, refl, ap}
+use mathlib.Core.Logic.{◌≢◌}
 use mathlib.Core.List.{List, [], ◌∷◌}
 use mathlib.Core.Bool.{Bool, true, false, ◌&&◌, ◌||◌}
 use mathlib.Core.Option.{none, some}
 use native.Mathlib.Omega.{arith}
 use borrow.Author.Tests.{ne_eqb, le-leb, lt-leb}
-use lib.ListN.{length}
+use lib.ListN.{length, get_or}
 use lib.Dec.{ltb, leb, eqb}
 use Rattle.rules.specs.declared.Record.{Record}
 use Rattle.rules.specs.Pass.{Found}
@@ -15,10 +16,11 @@ use Rattle.std.specs.Prelude.{Some, None}
 use Rattle.rules.specs.Answers.{Completion}
 use Rattle.std.specs.Prelude.{Ok, Err}
 use Rattle.rules.specs.declared.Lookup.TheVariants.{Unlined, Lined}
-use Rattle.rules.specs.declared.Refusal.TheVariants.{ShortEnd, StaleTicket}
+use Rattle.rules.specs.declared.Refusal.TheVariants.{ShortEnd, StaleTicket, UnknownForm}
 use Rattle.rules.specs.Refusals.{number}
 use Rattle.rules.specs.declared.Entry.TheVariants.{Read, Update, Fill, Age}
 use Rattle.std.specs.Prelude.{if◌then◌else◌}
+use Rattle.rules.specs.Bytes.{number_size, get64}
 use Rattle.rules.specs.Table.{Memory, is_lined, is_filled, line_of, key_record, looked_up, lookup, places, size, fresh_memory}
 use Rattle.rules.specs.Answers.{answer_number, number_of, said, completion_said, levels_said, lookup_said, entry_said, Reply, read_kind, update_kind, fill_kind, age_kind}
 use Rattle.rules.specs.Steps.{Outcome, outcome, age_steps, change, update_steps, store_in, store, fill_steps, levelled_sum}
@@ -199,3 +201,53 @@ entry_said_lem j at = go (leb (length j) at) (ltb (length j - at) entry_size)
     go false false =
         kind_said (key_at j at) (weight_at j at) (picture_place at) (ticket_at j at) (kind_at j at)
         (gaps_zero j at) (weight_zero j at) (picture_zero j at) (ticket_zero j at) (key_zero j at)
+
+-- ---- who may have a ticket
+-- | the journal keeps a fill's ticket in bytes 80 to 87, zero otherwise (document 02)
+module _ (j : List ℕ) (at : ℕ) where
+  ticket_byte : (i : ℕ) → i < number_size → get_or j (at + 80 + i) 0 ≤ ticket_at j at
+  unfolding ticket_at get64
+  ticket_byte zero few =
+      let same : get_or j (at + 80 + 0) 0 ≡ get_or j (at + 80) 0 = ap (λ x. get_or j x 0) (omega arith) in omega arith
+  ticket_byte (suc zero) few = omega arith
+  ticket_byte (suc (suc zero)) few = omega arith
+  ticket_byte (suc (suc (suc zero))) few = omega arith
+  ticket_byte (suc (suc (suc (suc zero)))) few = omega arith
+  ticket_byte (suc (suc (suc (suc (suc zero))))) few = omega arith
+  ticket_byte (suc (suc (suc (suc (suc (suc zero)))))) few = omega arith
+  ticket_byte (suc (suc (suc (suc (suc (suc (suc zero))))))) few = omega arith
+  ticket_byte (suc (suc (suc (suc (suc (suc (suc (suc i)))))))) few = absurd (omega arith)
+
+  not_ticket_zero : (i : ℕ) → i < number_size → get_or j (at + 80 + i) 0 ≢ 0 → ticket_zero j at ≡ false
+  unfolding ticket_zero
+  not_ticket_zero i few some_byte =
+      let below = ticket_byte i few in ne_eqb (ticket_at j at) 0 (λ e. some_byte (omega arith))
+
+  -- any of them that is not 0 makes a record that is no fill one of unknown form
+  pub ticket_of_fills : (i : ℕ) → kind_at j at ≢ fill_kind → i < number_size → get_or j (at + 80 + i) 0 ≢ 0 →
+      whole_entry j at ≡ Err UnknownForm
+  unfolding whole_entry of_form
+  ticket_of_fills i other few some_byte =
+      rw (ne_eqb (kind_at j at) fill_kind other, not_ticket_zero i few some_byte)
+      (kinds (eqb (kind_at j at) read_kind) (eqb (kind_at j at) update_kind) (eqb (kind_at j at) age_kind) (gaps_zero j at)
+      (picture_zero j at) (weight_zero j at) (key_zero j at))
+    where
+      kinds : (read update age gaps picture weight key : Bool) →
+          (if read
+          then of_form (gaps && picture && false) (Read (key_at j at) (weight_at j at))
+          else if update
+          then of_form (gaps && picture && false) (Update (key_at j at) (weight_at j at))
+          else of_form (age && gaps && weight && picture && key && false) Age)
+          ≡ Err UnknownForm
+      kinds true update age false picture weight key = refl
+      kinds true update age true false weight key = refl
+      kinds true update age true true weight key = refl
+      kinds false true age false picture weight key = refl
+      kinds false true age true false weight key = refl
+      kinds false true age true true weight key = refl
+      kinds false false false gaps picture weight key = refl
+      kinds false false true false picture weight key = refl
+      kinds false false true true picture false key = refl
+      kinds false false true true false true key = refl
+      kinds false false true true true true false = refl
+      kinds false false true true true true true = refl

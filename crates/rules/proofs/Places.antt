@@ -12,9 +12,9 @@ use lib.Dec.{lit<}
 use lib.Seq.{get_or-drop, get_or-take, take_at, drop_at, length-take-le, take-append-le, drop-append-le, drop-append-add, drop-drop}
 use Rattle.rules.specs.declared.Record.{Record}
 use Rattle.rules.specs.declared.Gauge.{Gauge}
-use Rattle.rules.specs.Bytes.{get64, put64, record_size, heat_place, slack_place, state_place, ticket_place, ceiling_place, serial_place, record_at, put_record, record_count, line_size, line_at, put_line, line_count, gauge_size, gauge_at, put_gauge}
+use Rattle.rules.specs.Bytes.{IsBytes, get64, put64, record_size, heat_place, slack_place, state_place, ticket_place, ceiling_place, serial_place, record_at, put_record, record_count, line_size, line_at, put_line, line_count, gauge_size, gauge_at, put_gauge}
 use Rattle.rules.specs.Table.{change_all, fresh_gauge}
-use Rattle.rules.proofs.Words.{IsBytes, bytes8, put64_over, length-put64, get-put64_same, get-put64_other, put64_bytes, get64_below, put_get64}
+use Rattle.rules.proofs.Words.{bytes8, put64_over, length-put64, get-put64_same, get-put64_other, put64_bytes, get64_below, put_get64}
 
 -- 64-bit numbers
 pub record IsRecord (r : Record) : Type 0 where

@@ -11,11 +11,7 @@ use native.Mathlib.Omega.{arith}
 use lib.ListN.{length, get_or, take, drop, set, length-set}
 use lib.Seq.{sets, length-sets, sets-eq, get_or-set_same, get_or-set_other, set-get_or}
 use lib.Dec.{lit<}
-use Rattle.rules.specs.Bytes.{get64, put64}
-
--- every element of a list is a byte
-pub record IsBytes (l : List ℕ) : Type 0 where
-  pub below : (i : ℕ) → get_or l i 0 < 256
+use Rattle.rules.specs.Bytes.{IsBytes, get64, put64}
 
 -- ---- a run of stores
 stores_below : (vs l : List ℕ) (i j : ℕ) → j < i → get_or (sets l i vs) j 0 ≡ get_or l j 0

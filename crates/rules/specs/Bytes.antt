@@ -1,7 +1,11 @@
 -- How numbers, records, the gauge and the lines lie in lent bytes. Sizes and offsets stand here and nowhere else.
-use Rattle.std.specs.Prelude.{ℕ, ◌+◌, ◌*◌, ◌/◌, ◌%◌, List, ◌++◌, length, get_or, take, drop, set}
+use Rattle.std.specs.Prelude.{ℕ, ◌+◌, ◌*◌, ◌/◌, ◌%◌, ◌<◌, List, ◌++◌, length, get_or, take, drop, set}
 use Rattle.rules.specs.declared.Record.{Record}
 use Rattle.rules.specs.declared.Gauge.{Gauge}
+
+-- every number of a list is a byte, as are all that a call is lent
+pub record IsBytes (l : List ℕ) : Type 0 where
+  pub below : (i : ℕ) → get_or l i 0 < 256
 
 -- | 64-bit unsigned numbers, least significant byte first
 unfoldable pub get64 : List ℕ → ℕ → ℕ

@@ -1,5 +1,5 @@
 -- One definition a call: its answer and all it leaves, for accepted and refused calls alike, by a Rattle caller or a C host.
-use Rattle.std.specs.Prelude.{ℕ, ◌*◌, ◌≤◌, ◌<◌, ◌≡◌, List, [], ◌∷◌, Bool, ◌&&◌, ◌||◌, length, ltb, leb, eqb, if◌then◌else◌, Result, Ok, Err}
+use Rattle.std.specs.Prelude.{ℕ, ◌*◌, ◌≤◌, ◌<◌, ◌≡◌, List, [], ◌∷◌, Bool, ◌&&◌, ◌||◌, length, replicate, ltb, leb, eqb, if◌then◌else◌, Result, Ok, Err}
 use Rattle.std.proofs.Math.Option.{Option, none}
 use Rattle.rules.specs.declared.Gauge.{Gauge}
 use Rattle.rules.specs.declared.View.{View}
@@ -231,3 +231,16 @@ put_levels sum (Err cause) = outcome (number cause) sum
 unfoldable pub exported_sum : HostMemory → List ℕ → Outcome ℕ (List ℕ)
 exported_sum h sum =
     unless (verdict (gauge_test h ∷ number_test sum ∷ [])) (λ cause. outcome (number cause) sum) (put_levels sum (levelled_outcome (held h)))
+
+-- ---- the same, by all tests in one row and byte by byte
+-- | Fresh: every table byte and the gauge are zero. The lines keep their bytes. .. Fresh gives only 1.
+abbrev pub fresh_told : HostMemory → Outcome ℕ HostMemory
+fresh_told h =
+    unless (verdict (gauge_test h ∷ sizes_test (held h) ∷ [])) (λ cause. outcome (number cause) h)
+    (outcome 0 (host_lent (replicate (length h.table) 0) (replicate gauge_size 0) h.lines))
+
+-- | Refusals 1 and 3.
+abbrev pub sum_told : HostMemory → List ℕ → Outcome ℕ (List ℕ)
+sum_told h sum =
+    unless (verdict (gauge_test h ∷ must (eqb (length sum) 8) WrongSizes ∷ sizes_test (held h) ∷ order_test (held h) ∷ [])) (λ cause. outcome (number cause) sum)
+    (outcome 0 (put64 sum 0 (levelled_sum (held h))))

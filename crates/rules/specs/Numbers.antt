@@ -101,10 +101,10 @@ said_at j at =
     else if form_good j at then said (some (kind_at j at)) (form_values j at) else refusal 7
 
 -- ---- the line that an answer names
--- a hit's or a wanted's line is one of c, and one that the paper allows; a wanted's ticket has 64 bits
+-- a hit's or a wanted's line is one of c, and one that the paper allows, which is at most 1,022; a wanted's ticket has 64 bits
 pub record NamesLine (c : ℕ) (a : Reply) : Type 0 where
-  pub hit : (n : ℕ) → a ≡ Ok (Hit n) → (n < c) × (n < most_records)
-  pub wanted : (n ticket : ℕ) → a ≡ Ok (Wanted n ticket) → (n < c) × (n < most_records) × (ticket < 2 ^ 64)
+  pub hit : (n : ℕ) → a ≡ Ok (Hit n) → (n < c) × (n + 1 < most_records)
+  pub wanted : (n ticket : ℕ) → a ≡ Ok (Wanted n ticket) → (n < c) × (n + 1 < most_records) × (ticket < 2 ^ 64)
 
 -- what a host makes of a number from 2,000 on, and of the bytes that it lent for a ticket: which answer it is, and a line that is there
 pub record TellsLine (c : ℕ) (a : Reply) (told : ℕ) (ticket : List ℕ) : Type 0 where

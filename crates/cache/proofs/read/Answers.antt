@@ -1,7 +1,7 @@
 -- A memory that is accepted has the room that the steps want. Assumes nothing.
 use Rattle.std.proofs.Common.{sym, rules, arith}
 use Rattle.rules.specs.Calls.{lent, unless, read_outcome}
-use Rattle.rules.proofs.Words.{IsBytes}
+use Rattle.rules.specs.Bytes.{IsBytes}
 use Rattle.rules.proofs.Answered.{read_said_lem}
 use Rattle.rules.proofs.Verdicts.{read_accepted}
 use Rattle.steps.proofs.Rooms.{order_fits}

@@ -1,9 +1,8 @@
 use Rattle.std.proofs.Common.{◌≡◌, [], add-one, rules, arith}
-use Rattle.rules.specs.Bytes.{record_count}
+use Rattle.rules.specs.Bytes.{IsBytes, record_count}
 use Rattle.rules.specs.Table.{change_all, places, size, with_table, with_gauge, fresh_gauge}
 use Rattle.rules.specs.Steps.{aged}
 use Rattle.rules.specs.Calls.{lent}
-use Rattle.rules.proofs.Words.{IsBytes}
 use Rattle.rules.proofs.Memories.{places_aged}
 use Rattle.steps.proofs.age_records.Goals as goal
 

@@ -1,0 +1,86 @@
+-- A fill that brings the ticket of a fetch which an update of its class overtook is refused: a ticket that a read tells has been given by
+-- then, and an accepted update of the class makes all that have been given stale. Assumes nothing.
+use Prim.Native.Nat.{ℕ, ◌+◌, ◌≤◌, ◌<◌, ◌^◌}
+use mathlib.Core.Path.{◌≡◌, refl, sym, ◌∙◌, ap}
+use mathlib.Core.Bool.{Bool, true, false}
+use mathlib.Core.List.{[], ◌∷◌}
+use mathlib.Core.Option.{some}
+use native.Mathlib.Omega.{arith}
+use lib.ListN.{length, get_or}
+use Rattle.std.specs.Prelude.{if◌then◌else◌, Some, None, Ok, Err}
+use Rattle.rules.specs.declared.Record.{Record}
+use Rattle.rules.specs.declared.Answer.TheVariants.{Wanted}
+use Rattle.rules.specs.Refusals.{number}
+use Rattle.rules.specs.Pass.{Found}
+use Rattle.rules.specs.Table.{Memory, is_lined, is_filled, line_of, key_record, places, size}
+use Rattle.rules.specs.Answers.{Completion, is_refused, answer_number, number_of, values_of, Said, said, answer_said}
+use Rattle.rules.specs.Steps.{read_steps, fill_steps}
+use Rattle.rules.specs.Calls.{unless, leaving, read_verdict, read_outcome, fill_verdict, fill_outcome}
+use Rattle.rules.specs.Numbers.{refusal, standing, read_said}
+use Rattle.rules.specs.Replay.{Truth, unheard}
+use Rattle.rules.specs.Bytes.{IsBytes}
+use Rattle.rules.proofs.Finds.{key_found}
+use Rattle.rules.proofs.Answered.{read_said_lem}
+use Rattle.rules.proofs.Invariant.{Holds}
+use Rattle.rules.proofs.FillHolds.{late_fill_refused}
+use Rattle.rules.proofs.FreshHolds.{fresh_holds}
+use Rattle.demand.specs.List.{read, key_of, call_outcome, rattle, memory_of, made, told as told_heard, replay, stale_from}
+use Rattle.demand.specs.Demand3.{OvertakenRefused}
+use Rattle.demand.proofs.EveryList.{own_holds, list_holds}
+use Rattle.demand.proofs.Since.{stale_updated}
+
+-- a ticket that a read tells stands in its record, so that it has been given
+module _ (m : Memory) (key w n ticket : ℕ) (t : Truth) (stale : ℕ → ℕ) where
+  abbrev wanted : Said
+  wanted = said (some (4000 + n)) (ticket ∷ [])
+
+  stood : (a : Memory) → Holds a t stale → (x : Found) → key_record key (places a) (size a) ≡ x → wanted ≡ standing x → ticket ≤ a.gauge.serial
+  unfolding standing
+  stood a h None e s = absurd (omega (arith, ap (λ (s : Said). length s.values) s))
+  stood a h (Some (i, r)) e s = go (is_filled r) (is_lined r) s
+    where
+      go : (full lined : Bool) →
+          wanted
+          ≡ (if full
+          then said (some (2000 + line_of r)) []
+          else if lined then said (some (4000 + line_of r)) (r.ticket ∷ []) else said (some 104) []) →
+          ticket ≤ a.gauge.serial
+      go true lined s = absurd (omega (arith, ap (λ (s : Said). length s.values) s))
+      go false false s = absurd (omega (arith, ap (λ (s : Said). length s.values) s))
+      go false true s =
+          let found = key_found (places a) (size a) key i r e in
+          omega (
+            arith,
+            ap (λ (s : Said). get_or s.values 0 0) s,
+            ap (λ (r : Record). r.ticket) found.is,
+            h.shows.ticket_most i found.inside,
+          )
+
+  told_given : IsBytes m.table → key < 2 ^ 64 → Holds (read_outcome m key w).after t stale →
+      (read_outcome m key w).answer ≡ Ok (Wanted n ticket) → ticket ≤ (read_outcome m key w).after.gauge.serial
+  unfolding read_outcome read_said unless answer_said number_of answer_number values_of
+  told_given bytes fits h e = go (read_verdict m w) h e (ap answer_said (sym e) ∙ read_said_lem m key w bytes fits)
+    where
+      go : (v : Completion) → Holds (unless v (leaving m) (read_steps m key w)).after t stale →
+          (unless v (leaving m) (read_steps m key w)).answer ≡ Ok (Wanted n ticket) →
+          wanted
+          ≡ unless v (λ cause. refusal (number cause))
+          (standing (key_record key (places (read_steps m key w).after) (size (read_steps m key w).after))) →
+          ticket ≤ (unless v (leaving m) (read_steps m key w)).after.gauge.serial
+      go (Ok u) h e s = stood (read_steps m key w).after h _ refl s
+      go (Err cause) h e s = absurd (omega (arith, ap (λ (s : Said). length s.values) s))
+
+pub overtaken_refused : OvertakenRefused
+unfolding fill_outcome unless is_refused made memory_of call_outcome key_of
+overtaken_refused m told end es later key w n ticket picture done fits lead wants rest changes =
+    go (fill_verdict end picture)
+  where
+    h : Holds told (replay (unheard (size m)) (told_heard es)) (stale_from (λ key. 0) es)
+    h = list_holds (unheard (size m)) (λ key. 0) (fresh_holds m done) lead
+
+    go : (v : Completion) → is_refused (unless v (leaving end) (fill_steps end key picture ticket)).answer ≡ true
+    go (Ok u) =
+        let k = own_holds (read key w) (rattle told) _ _ h refl fits in
+        let given = told_given told key w n ticket _ _ h.bytes fits k wants in
+        late_fill_refused end _ _ key picture ticket (list_holds _ _ k rest) (omega (arith, given, stale_updated _ _ key k rest changes))
+    go (Err cause) = refl
