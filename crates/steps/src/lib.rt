@@ -6,9 +6,9 @@ ghost use Rattle.rules.specs.Bytes.{record_at, record_count};
 ghost use Rattle.rules.specs.Table.{most_total, aged_record, key_record, free_record, victim, change_all};
 ghost use Rattle.rules.specs.Calls.{serial_limit, memory, SameLent};
 ghost use Rattle.rules.specs.Answers.{answer_number};
-ghost use Rattle.rules.specs.Steps.{outcome, aged, decay_for, track, admission, place, read_counted, peek_answer, read_steps, update_steps};
-ghost use Rattle.lines.specs.Room.{LinesFit, HeatsBelow};
-ghost use Rattle.steps.specs.Room.{HeatsFit, EachAged};
+ghost use Rattle.rules.specs.Steps.{outcome, aged, decay_for, track, evict, admission, place, read_counted, peek_answer, read_steps, update_steps};
+ghost use Rattle.lines.specs.Room.{LinesFit};
+ghost use Rattle.steps.specs.Room.{HeatsFit, EachAged, Admits, admitted};
 
 use fields::{aged_record, cooled, emptied, heated, new_record, read_answer};
 use lines::{admit, demote};
@@ -57,19 +57,6 @@ fn decay_for(hub: &mut Hub, weight: u16)
     }
 }
 
-// Steps 5 and 6 of a read: the record gets a line if it may, and the answer says how it stands.
-#[tactic(auto, unfolding(rules::specs::Bytes::record_count, rules::specs::Steps::admission, rules::specs::Table::places))]
-fn admission(hub: &mut Hub, i: usize) -> Answer
-    requires { (i < record_count hub.old.table.now) × LinesFit (memory hub.old) × HeatsBelow (memory hub.old) × (hub.old.gauge.now.serial < serial_limit) }
-    ensures same_lent { SameLent hub.old hub.new }
-    ensures outcome { outcome (Ok result) (memory hub.new) ≡ admission i (memory hub.old) }
-    ensures answer_bound { answer_number result < 2 ^ 64 }
-{
-    admit(hub, i);
-    let table = &mut *hub.table;
-    read_answer(record_at(table, i))
-}
-
 // The record at place i becomes the key's.
 #[tactic(auto, unfolding(rules::specs::Steps::track, rules::specs::Table::write, rules::specs::Table::with_table))]
 fn track(hub: &mut Hub, key: u64, weight: u16, i: usize)
@@ -82,50 +69,80 @@ fn track(hub: &mut Hub, key: u64, weight: u16, i: usize)
 }
 
 // Step 4: the victim leaves, and its record becomes the key's.
-#[tactic(auto, unfolding(rules::specs::Steps::place, rules::specs::Table::places, rules::specs::Table::size, rules::specs::Bytes::record_count, rules::specs::Table::with_gauge, rules::specs::Steps::evict, rules::specs::Steps::raised))]
-fn read_evicting(hub: &mut Hub, key: u64, weight: u16, i: usize, v: Record) -> Answer
-    requires { HeatsFit (memory hub.old) × LinesFit (memory hub.old) × (hub.old.gauge.now.serial < serial_limit) × (victim (record_at hub.old.table.now) (record_count hub.old.table.now) ≡ Some (i, v)) }
+#[tactic(auto, unfolding(rules::specs::Steps::evict, rules::specs::Steps::raised, rules::specs::Table::with_gauge))]
+fn evict(hub: &mut Hub, key: u64, weight: u16, i: usize, v: Record)
+    requires { (i < record_count hub.old.table.now) × (hub.old.gauge.now.ceiling ≤ most_total) × (v.heat ≤ most_total) }
     ensures same_lent { SameLent hub.old hub.new }
-    ensures outcome { outcome (Ok result) (memory hub.new) ≡ place (memory hub.old) key weight None None (victim (record_at hub.old.table.now) (record_count hub.old.table.now)) }
-    ensures answer_bound { answer_number result < 2 ^ 64 }
+    ensures memory { memory hub.new ≡ evict (memory hub.old) key weight i v }
 {
     hub.gauge.ceiling = hub.gauge.ceiling.max(v.heat);
     track(hub, key, weight, i);
-    admission(hub, i)
 }
 
-// Steps 3 and 4: an untracked key gets the first free record, or the victim's.
-#[tactic(auto, unfolding(rules::specs::Steps::place, rules::specs::Answers::answer_number, rules::specs::Bytes::record_count, rules::specs::Table::size))]
-fn read_untracked(hub: &mut Hub, key: u64, weight: u16) -> Answer
+// Steps 3 and 4: the place of the record that an untracked key has then, the first free one or the victim's.
+#[tactic(auto, unfolding(rules::specs::Steps::place))]
+fn place_untracked(hub: &mut Hub, key: u64, weight: u16) -> Option<usize>
     requires { HeatsFit (memory hub.old) × LinesFit (memory hub.old) × (hub.old.gauge.now.serial < serial_limit) }
     ensures same_lent { SameLent hub.old hub.new }
-    ensures outcome { outcome (Ok result) (memory hub.new) ≡ place (memory hub.old) key weight None (free_record (record_at hub.old.table.now) (record_count hub.old.table.now)) (victim (record_at hub.old.table.now) (record_count hub.old.table.now)) }
-    ensures answer_bound { answer_number result < 2 ^ 64 }
+    ensures placed { admitted result (memory hub.new) ≡ place (memory hub.old) key weight None (free_record (record_at hub.old.table.now) (record_count hub.old.table.now)) (victim (record_at hub.old.table.now) (record_count hub.old.table.now)) }
+    ensures admits { Admits result (memory hub.new) }
 {
     let table = &mut *hub.table;
     match replaceable(table) {
         Replacement::Free(i) => {
             track(hub, key, weight, i);
-            admission(hub, i)
+            Some(i)
         }
-        Replacement::Victim(i, v) => read_evicting(hub, key, weight, i, v),
-        Replacement::Nothing => Answer::Passed,
+        Replacement::Victim(i, v) => {
+            evict(hub, key, weight, i, v);
+            Some(i)
+        }
+        Replacement::Nothing => None,
     }
 }
 
+// Steps 2 to 4: the place of the record that the key has then. None where every record is on a line.
+#[tactic(auto, unfolding(rules::specs::Steps::read_counted, rules::specs::Steps::place, rules::specs::Table::places, rules::specs::Table::size, rules::specs::Table::heated, rules::specs::Table::write, rules::specs::Table::with_table))]
+fn place(hub: &mut Hub, key: u64, weight: u16) -> Option<usize>
+    requires { HeatsFit (memory hub.old) × LinesFit (memory hub.old) × (hub.old.gauge.now.serial < serial_limit) }
+    ensures same_lent { SameLent hub.old hub.new }
+    ensures placed { admitted result (memory hub.new) ≡ read_counted (memory hub.old) key weight }
+    ensures admits { Admits result (memory hub.new) }
+{
+    let table = &mut *hub.table;
+    let Some((i, r)) = key_record(table, key) else {
+        return place_untracked(hub, key, weight);
+    };
+    put_record(table, i, heated(weight, r));
+    Some(i)
+}
+
+// Steps 5 and 6: the record gets a line if it may, and the answer says how it stands. (Not inlined, as the order test is not: its loop
+// over the records has to be aligned.)
+#[tactic(auto, unfolding(rules::specs::Bytes::record_count, rules::specs::Steps::admission, rules::specs::Table::places))]
+#[inline(never)]
+fn admission(hub: &mut Hub, i: usize) -> Answer
+    requires { Admits (Some i) (memory hub.old) }
+    ensures same_lent { SameLent hub.old hub.new }
+    ensures outcome { outcome (Ok result) (memory hub.new) ≡ admission i (memory hub.old) }
+    ensures answer_bound { answer_number result < 2 ^ 64 }
+{
+    admit(hub, i);
+    let table = &mut *hub.table;
+    read_answer(record_at(table, i))
+}
+
 // Steps 2 to 6, once the total has grown.
-#[tactic(auto, unfolding(rules::specs::Steps::read_counted, rules::specs::Steps::place, rules::specs::Table::places, rules::specs::Table::size, rules::specs::Bytes::record_count, rules::specs::Table::heated, rules::specs::Table::write, rules::specs::Table::with_table))]
+#[tactic(auto, unfolding(rules::specs::Answers::answer_number))]
 fn read_counted(hub: &mut Hub, key: u64, weight: u16) -> Answer
     requires { HeatsFit (memory hub.old) × LinesFit (memory hub.old) × (hub.old.gauge.now.serial < serial_limit) }
     ensures same_lent { SameLent hub.old hub.new }
     ensures outcome { outcome (Ok result) (memory hub.new) ≡ read_counted (memory hub.old) key weight }
     ensures answer_bound { answer_number result < 2 ^ 64 }
 {
-    let table = &mut *hub.table;
-    let Some((i, r)) = key_record(table, key) else {
-        return read_untracked(hub, key, weight);
+    let Some(i) = place(hub, key, weight) else {
+        return Answer::Passed;
     };
-    put_record(table, i, heated(weight, r));
     admission(hub, i)
 }
 
