@@ -113,8 +113,9 @@ uint64_t cot_read(uint8_t *table, size_t table_len, uint8_t *gauge, size_t gauge
 
 /* Says that the picture of a key has changed; call it after the change, so that no later fetch
  * finds the old one. The weight is 1 to COT_MOST_WEIGHT. Its heat falls by the weight, a line it
- * has becomes empty, and the tickets that were given for it are void. A refused update leaves the
- * old picture in its line and its tickets good: make it again.
+ * has becomes empty, and the tickets that were given for it are void. A refused update changes
+ * nothing: the old picture stays in its line, and its tickets are what they were. Mend the cause and
+ * make it again; after COT_REFUSED_ORDER or COT_REFUSED_SERIAL start fresh.
  * Returns COT_CHANGED or COT_UNKNOWN; refused: sizes, weight, order, serial. */
 uint64_t cot_update(uint8_t *table, size_t table_len, uint8_t *gauge, size_t gauge_len,
                     const uint8_t *lines, size_t lines_len, uint64_t key, uint64_t weight);

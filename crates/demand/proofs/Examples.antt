@@ -335,22 +335,44 @@ late_refused picture = late_fills_refused (dirty 2) late_end late_events refl la
 pub late_overtaken : (picture : List ℕ) → is_refused (fill_outcome late_end 5 picture 1).answer ≡ true
 unfolding computing
 late_overtaken picture =
-    overtaken_refused (dirty 2) cleared late_end (happened (update 9 1) false 0 ∷ [])
+    overtaken_refused (dirty 2) cleared (happened (update 9 1) false 0 ∷ []) refl (own (update 9 1) (rattle _) refl (omega arith) nothing)
+    (rattle _) late_end
     (happened (update 5 1) false 1
     ∷ happened (fill 5 (sample_picture 1) 1) true 2
     ∷ happened (read 5 1) false 2
     ∷ happened (fill 5 (sample_picture 2) 2) false 2
     ∷ happened (update 9 1) false 2
     ∷ [])
-    5 3 0 1 picture refl (omega arith)
-    (own (update 9 1) (rattle _) refl (omega arith) nothing)
-    refl
+    5 3 0 1 picture refl (omega arith) refl
     (own (update 5 1) (rattle _) refl (omega arith)
     (own (fill 5 (sample_picture 1) 1) (rattle _) refl (omega arith)
     (own (read 5 1) (rattle _) refl (omega arith)
     (own (fill 5 (sample_picture 2) 2) (rattle _) refl (omega arith)
     (own (update 9 1) (rattle _) refl (omega arith)
     nothing)))))
+    refl
+
+-- Told by a look of a host, at the largest key, on line 1, with a ticket that an earlier read gave; then an update that is refused, one of
+-- another class, and only then the class's.
+abbrev look_start : Memory
+look_start = (call_outcome (read largest 65535) (call_outcome (read 5 3) cleared).after).after
+
+abbrev look_end : Memory
+look_end = (call_outcome (update largest 65535) (call_outcome (update 5 1) look_start).after).after
+
+pub look_overtaken : (picture : List ℕ) → is_refused (fill_outcome look_end largest picture 2).answer ≡ true
+unfolding computing
+look_overtaken picture =
+    overtaken_refused (dirty 2) look_start (happened (read 5 3) false 0 ∷ happened (read largest 65535) false 1 ∷ []) refl
+    (own (read 5 3) (rattle _) refl (omega arith) (own (read largest 65535) (rattle _) refl (omega arith) nothing))
+    (host (read_lent (host_lent look_start.table (2 ∷ 0 ∷ 1 ∷ replicate 13 0 ++ (2 ∷ replicate 7 0)) look_start.lines) eight_bytes))
+    look_end
+    (happened (update largest 0) true 2 ∷ happened (update 5 1) false 2 ∷ happened (update largest 65535) false 3 ∷ [])
+    largest 0 1 2 picture refl (omega arith) refl
+    (own (update largest 0) (rattle _) refl (omega arith)
+    (own (update 5 1) (rattle _) refl (omega arith)
+    (own (update largest 65535) (rattle _) refl (omega arith)
+    nothing)))
     refl
 
 -- class 7, never updated, filled at the last place on the second line

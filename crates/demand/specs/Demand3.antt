@@ -8,9 +8,9 @@ use Rattle.rules.specs.Table.{Memory, is_tracked, is_unlined, is_lined, filled_s
 use Rattle.rules.specs.Answers.{is_refused}
 use Rattle.rules.specs.Steps.{levelled_sum}
 use Rattle.rules.specs.declared.Answer.TheVariants.{Wanted}
-use Rattle.rules.specs.Calls.{plain_verdict, read_outcome, fill_outcome, fresh_outcome}
+use Rattle.rules.specs.Calls.{plain_verdict, fill_outcome, fresh_outcome}
 use Rattle.rules.specs.Replay.{filled_with, Truth, unheard}
-use Rattle.demand.specs.List.{Event, told, Follows, replay, stale_up_to, updated, next_serial}
+use Rattle.demand.specs.List.{read, Lent, memory_of, made, Event, told, Follows, replay, stale_up_to, updated, next_serial}
 
 pub record Demand3 (m : Memory) (truth : Truth) (es : List Event) : Type 0 where
   -- | the lines hold the hottest: no tracked class off the lines is hotter (more heat in the table) than one on them
@@ -77,12 +77,11 @@ LateFillsRefused m truth es =
 -- | A sorter is told wanted, fetches, and meanwhile the picture changes. (Document 02)
 -- After a list a read of a class tells wanted, with a ticket; the list goes on, and an update of the class is accepted in it. From then
 -- on a fill that brings this ticket is refused.
-abbrev pub OvertakenRefused : Type 0
-OvertakenRefused =
-    (m told end : Memory) (es later : List Event) (key w n ticket : ℕ) (picture : List ℕ) → (fresh_outcome m).answer ≡ Ok tt → key < 2 ^ 64 →
-    Follows (fresh_outcome m).after es told → (read_outcome told key w).answer ≡ Ok (Wanted n ticket) →
-    Follows (read_outcome told key w).after later end → updated key later ≡ true →
-    is_refused (fill_outcome end key picture ticket).answer ≡ true
+abbrev pub OvertakenRefused : Memory → Truth → List Event → Type 0
+OvertakenRefused m truth es =
+    (lent : Lent) (end : Memory) (later : List Event) (key w n ticket : ℕ) (picture : List ℕ) → memory_of lent ≡ m → key < 2 ^ 64 →
+    (made (read key w) lent).answer ≡ Ok (Wanted n ticket) → Follows (memory_of (made (read key w) lent).after) later end →
+    updated key later ≡ true → is_refused (fill_outcome end key picture ticket).answer ≡ true
 
 -- | The list starts from a fresh table and gauge; the lines may hold any bytes.
 -- Fresh accepts every K from 1 to 1,024 and every C below K (`fresh_accepts`), so m stands for all that a list can start with.

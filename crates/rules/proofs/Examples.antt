@@ -323,7 +323,8 @@ pub fill_of_any_ticket : (a b c d e f g h : ℕ) →
 unfolding computing
 fill_of_any_ticket a b c d e f g h = refl
 
--- passed over: a kind of 0; byte 1, byte 7 or the picture's last byte of a read; a fill's weight; an aging's weight or key
+-- passed over: a kind of 0; byte 1, byte 7 or the picture's last byte of a read; a fill's weight; an aging's weight or key; a
+-- read's byte 87, an update's 83, an aging's 80
 abbrev Unknown : List ℕ → Type 0
 Unknown j = entry_at j 0 ≡ decoded (Some (Err UnknownForm)) 88
 
@@ -335,8 +336,11 @@ pub unknown_forms :
     × Unknown ((3 ∷ 0 ∷ 0 ∷ 1 ∷ []) ++ replicate 84 0)
     × Unknown ((4 ∷ 0 ∷ 1 ∷ []) ++ replicate 85 0)
     × Unknown ((4 ∷ []) ++ replicate 7 0 ++ (1 ∷ []) ++ replicate 79 0)
+    × Unknown ((1 ∷ []) ++ replicate 86 0 ++ (1 ∷ []))
+    × Unknown ((2 ∷ []) ++ replicate 82 0 ++ (1 ∷ []) ++ replicate 4 0)
+    × Unknown ((4 ∷ []) ++ replicate 79 0 ++ (1 ∷ []) ++ replicate 7 0)
 unfolding computing
-unknown_forms = (refl, refl, refl, refl, refl, refl, refl)
+unknown_forms = (refl, refl, refl, refl, refl, refl, refl, refl, refl, refl)
 
 -- | 8 now means 1 to 87 bytes left (document 02)
 pub short_end_stayed_at :

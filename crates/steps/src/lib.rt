@@ -79,7 +79,7 @@ fn evict(hub: &mut Hub, key: u64, weight: u16, i: usize, v: Record)
     track(hub, key, weight, i);
 }
 
-// Steps 3 and 4: the place of the record that an untracked key has then, the first free one or the victim's.
+// Steps 3 and 4: the place of the record that an untracked key has then, the first free one or the victim's, if there is one.
 #[tactic(auto, unfolding(rules::specs::Steps::place))]
 fn place_untracked(hub: &mut Hub, key: u64, weight: u16) -> Option<usize>
     requires { HeatsFit (memory hub.old) × LinesFit (memory hub.old) × (hub.old.gauge.now.serial < serial_limit) }
@@ -101,7 +101,7 @@ fn place_untracked(hub: &mut Hub, key: u64, weight: u16) -> Option<usize>
     }
 }
 
-// Steps 2 to 4: the place of the record that the key has then. None where every record is on a line.
+// Steps 2 to 4: the place of the record that the key has then, if it has one.
 #[tactic(auto, unfolding(rules::specs::Steps::read_counted, rules::specs::Steps::place, rules::specs::Table::places, rules::specs::Table::size, rules::specs::Table::heated, rules::specs::Table::write, rules::specs::Table::with_table))]
 fn place(hub: &mut Hub, key: u64, weight: u16) -> Option<usize>
     requires { HeatsFit (memory hub.old) × LinesFit (memory hub.old) × (hub.old.gauge.now.serial < serial_limit) }
