@@ -147,7 +147,8 @@ const FRESH_AND_SUM: [&str; 17] = [
 
 /// Special inputs: good ones in an accepted call, bad ones in a call refused for that cause. Each
 /// must come.
-const INPUTS: [&str; 46] = [
+const INPUTS: [&str; 47] = [
+    "read, its record after a free one",
     "K = 1",
     "K = 1,023",
     "K = 1,024",
@@ -549,6 +550,12 @@ fn count_inputs(case: &Case, found: u64, counts: &mut Counts) {
             count("read of weight 65,536", over && read);
             count("update of weight 65,536", over && !read);
             count("weight 2^64 - 1", found == 2 && *weight == u64::MAX);
+            let records = records_of(&case.table);
+            let own = records.iter().position(|r| r.key == *key && !r.is_free());
+            let free = records.iter().position(Record::is_free);
+            let after_free = matches!((own, free), (Some(own), Some(free)) if free < own);
+            let warm = accepted && read && *weight > 0;
+            count("read, its record after a free one", warm && after_free);
         }
         Call::Fill {
             key,

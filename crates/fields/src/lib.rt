@@ -56,11 +56,11 @@ pub fn line_of(r: Record) -> usize
 }
 
 // Whether it is all zero, as a free one has to be.
-#[tactic(auto, unfolding(rules::specs::Table::is_zero))]
+#[tactic(auto, unfolding(rules::specs::Table::is_zero), using(crate::proofs::Zero::or_is_zero))]
 pub fn is_zero(r: Record) -> bool
     ensures { result ≡ is_zero r }
 {
-    r == Record::default()
+    (r.key | r.heat | r.slack | r.state | r.ticket) == 0
 }
 
 // ---- what becomes of a record

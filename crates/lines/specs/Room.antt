@@ -3,7 +3,7 @@
 use Rattle.std.specs.Prelude.{ℕ, ◌+◌, ◌*◌, ◌≤◌, ◌<◌}
 use Rattle.rules.specs.Calls.{most_records}
 use Rattle.rules.specs.Table.{Memory, places, size, line_total}
-use Rattle.tracker.specs.Claiming.{largest}
+use Rattle.tracker.specs.Claiming.{HeatsUnder}
 
 -- every line that a state names is there
 pub record LinesFit (m : Memory) : Type 0 where
@@ -12,4 +12,4 @@ pub record LinesFit (m : Memory) : Type 0 where
 
 -- no heat is the largest number
 pub record HeatsBelow (m : Memory) : Type 0 where
-  pub heat : (i : ℕ) → i < size m → (places m i).heat < largest
+  pub heat : HeatsUnder (places m) (size m)

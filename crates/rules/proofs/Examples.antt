@@ -392,3 +392,10 @@ pub refusals_numbered :
     × (number SerialSpent ≡ 10)
 unfolding number
 refusals_numbered = (refl, refl, refl, refl, refl, refl, refl, refl, refl, refl)
+
+-- ---- among equally cold classes without a line the first leaves, whatever their slacks and keys
+pub first_of_equals_leaves :
+    read_outcome (three_records (numbers 12 5 2 1 0) (numbers 11 5 1 1 0) (numbers 13 5 3 1 0) (gauge_of 20 3 0) 0) 24 1
+    ≡ outcome (Ok Passed) (three_records (numbers 24 6 5 1 0) (numbers 11 5 1 1 0) (numbers 13 5 3 1 0) (gauge_of 21 5 0) 0)
+unfolding computing
+first_of_equals_leaves = refl

@@ -8,7 +8,7 @@ use native.Mathlib.Omega.{arith}
 use borrow.Author.Tests.{ltb-true, ltb-false, lt-ltb, le-ltb, eqb-true, eqb-false, eq-eqb}
 use Rattle.rules.specs.declared.Record.{Record}
 use Rattle.std.specs.Prelude.{Some, None}
-use Rattle.rules.specs.Table.{is_free, is_zero, is_tracked, is_unlined, is_lined, has_key, key_record, free_record, colder, hotter, victim, coldest_lined, hottest_unlined}
+use Rattle.rules.specs.Table.{is_free, is_zero, is_tracked, is_unlined, is_lined, has_key, key_record, free_record, colder, hotter, leaves, victim, coldest_lined, hottest_unlined}
 use Rattle.rules.proofs.Searches.{both, clash, first_at, first_nowhere, IsBest, best_at, best_nowhere}
 
 -- | (all .. numbers are 0)
@@ -71,6 +71,23 @@ module _ (f : ℕ → Record) (n : ℕ) where
   unfolding colder
   colder_never r = le-ltb r.heat r.heat (omega arith)
 
+  leaves_over : (r s t : Record) → leaves r s ≡ true → leaves t s ≡ false → leaves r t ≡ true
+  unfolding leaves
+  leaves_over = colder_over
+
+  leaves_one_way : (r s : Record) → leaves r s ≡ true → leaves s r ≡ false
+  unfolding leaves
+  leaves_one_way = colder_one_way
+
+  leaves_never : (r : Record) → leaves r r ≡ false
+  unfolding leaves
+  leaves_never = colder_never
+
+  -- one that stays behind is no colder
+  leaves_coldest : (r s : Record) → leaves r s ≡ false → s.heat ≤ r.heat
+  unfolding leaves colder
+  leaves_coldest r s = ltb-false r.heat s.heat
+
   hotter_over : (r s t : Record) → hotter r s ≡ true → hotter t s ≡ false → hotter r t ≡ true
   unfolding hotter
   hotter_over r s t a b =
@@ -86,13 +103,13 @@ module _ (f : ℕ → Record) (n : ℕ) where
   unfolding hotter
   hotter_never r = le-ltb r.heat r.heat (omega arith)
 
-  pub victim_best : (i : ℕ) (r : Record) → victim f n ≡ Some (i, r) → IsBest is_unlined colder f n i r
+  pub victim_best : (i : ℕ) (r : Record) → victim f n ≡ Some (i, r) → IsBest is_unlined leaves f n i r
   unfolding victim
-  victim_best i r e = best_at is_unlined colder colder_over colder_one_way colder_never f n i r e
+  victim_best i r e = best_at is_unlined leaves leaves_over leaves_one_way leaves_never f n i r e
 
   pub victim_found : (i : ℕ) (r : Record) → victim f n ≡ Some (i, r) →
       IsAt f n i r (λ s. (s.state ≡ 1) × ((j : ℕ) → j < n → (f j).state ≡ 1 → s.heat ≤ (f j).heat))
-  unfolding victim colder is_unlined
+  unfolding victim is_unlined
   victim_found i r e =
       let h = victim_best i r e in
       record {
@@ -100,13 +117,18 @@ module _ (f : ℕ → Record) (n : ℕ) where
         is = h.is;
         has = (
           eqb-true _ _ (ap is_unlined (sym h.is) ∙ h.passes),
-          λ j below waits. rw h.is at (ltb-false (f j).heat r.heat (h.unbeaten j below (eq-eqb _ _ waits))),
+          λ j below waits. rw h.is at (leaves_coldest (f j) r (h.unbeaten j below (eq-eqb _ _ waits))),
         );
       }
 
+  -- and is colder than all before it: the first among equals
+  pub victim_first : (i : ℕ) (r : Record) → victim f n ≡ Some (i, r) → (j : ℕ) → j < i → (f j).state ≡ 1 → r.heat < (f j).heat
+  unfolding leaves colder is_unlined
+  victim_first i r e j before waits = ltb-true r.heat (f j).heat ((victim_best i r e).before j before (eq-eqb _ _ waits))
+
   pub victim_missing : victim f n ≡ None → (j : ℕ) → j < n → (f j).state ≢ 1
   unfolding victim is_unlined
-  victim_missing e j below = eqb-false _ _ (best_nowhere is_unlined colder colder_over colder_one_way colder_never f n e j below)
+  victim_missing e j below = eqb-false _ _ (best_nowhere is_unlined leaves leaves_over leaves_one_way leaves_never f n e j below)
 
   pub coldest_best : (i : ℕ) (r : Record) → coldest_lined f n ≡ Some (i, r) → IsBest is_lined colder f n i r
   unfolding coldest_lined
@@ -125,6 +147,10 @@ module _ (f : ℕ → Record) (n : ℕ) where
           λ j below lined. rw h.is at (ltb-false (f j).heat r.heat (h.unbeaten j below (lt-ltb _ _ lined))),
         );
       }
+
+  pub coldest_first : (i : ℕ) (r : Record) → coldest_lined f n ≡ Some (i, r) → (j : ℕ) → j < i → 1 < (f j).state → r.heat < (f j).heat
+  unfolding colder is_lined
+  coldest_first i r e j before lined = ltb-true r.heat (f j).heat ((coldest_best i r e).before j before (lt-ltb _ _ lined))
 
   pub coldest_missing : coldest_lined f n ≡ None → (j : ℕ) → j < n → (f j).state ≤ 1
   unfolding coldest_lined is_lined
@@ -147,6 +173,10 @@ module _ (f : ℕ → Record) (n : ℕ) where
           λ j below waits. rw h.is at (ltb-false r.heat (f j).heat (h.unbeaten j below (eq-eqb _ _ waits))),
         );
       }
+
+  pub hottest_first : (i : ℕ) (r : Record) → hottest_unlined f n ≡ Some (i, r) → (j : ℕ) → j < i → (f j).state ≡ 1 → (f j).heat < r.heat
+  unfolding hotter is_unlined
+  hottest_first i r e j before waits = ltb-true (f j).heat r.heat ((hottest_best i r e).before j before (eq-eqb _ _ waits))
 
   pub hottest_missing : hottest_unlined f n ≡ None → (j : ℕ) → j < n → (f j).state ≢ 1
   unfolding hottest_unlined is_unlined

@@ -17,6 +17,7 @@ pub mod UpdateKeeps
 pub mod FillKeeps
 pub mod Memories
 pub mod Finds
+pub mod Walks
 pub mod InOrder
 pub mod CallsHold
 pub mod Peek

@@ -3,6 +3,7 @@ pub mod Bytes
 pub mod Refusals
 pub mod Pass
 pub mod Table
+pub mod Walk
 pub mod States
 pub mod Answers
 pub mod Steps

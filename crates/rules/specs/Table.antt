@@ -129,9 +129,13 @@ colder r s = ltb r.heat s.heat
 unfoldable pub hotter : Record → Record → Bool
 hotter r s = ltb s.heat r.heat
 
+-- which of two records without a line leaves first
+unfoldable pub leaves : Record → Record → Bool
+leaves r s = colder r s
+
 -- | the victim is the coldest record without a line, first among equals
 unfoldable pub victim : (ℕ → Record) → ℕ → Found
-victim = best_of is_unlined colder
+victim = best_of is_unlined leaves
 
 -- | the coldest record on a line (first among equals)
 unfoldable pub coldest_lined : (ℕ → Record) → ℕ → Found

@@ -3,7 +3,7 @@
 
 ghost use Rattle.std.specs.Prelude.{◌≡◌, ◌≤◌, ◌<◌, ◌^◌, Some, None, Ok};
 ghost use Rattle.rules.specs.Bytes.{record_at, record_count};
-ghost use Rattle.rules.specs.Table.{most_total, aged_record, key_record, free_record, victim, change_all};
+ghost use Rattle.rules.specs.Table.{most_total, aged_record, key_record, change_all};
 ghost use Rattle.rules.specs.Calls.{serial_limit, memory, SameLent};
 ghost use Rattle.rules.specs.Answers.{answer_number};
 ghost use Rattle.rules.specs.Steps.{outcome, aged, decay_for, track, evict, admission, place, read_counted, peek_answer, read_steps, update_steps};
@@ -14,7 +14,7 @@ use fields::{aged_record, cooled, emptied, heated, new_record, read_answer};
 use lines::{admit, demote};
 use records::{change_record, put_record, record_at, record_count};
 use rules::{Answer, Hub, MOST_TOTAL, Record};
-use tracker::{Replacement, key_record, replaceable};
+use tracker::{key_record, some_place, walk};
 
 // ---- Age
 
@@ -79,30 +79,9 @@ fn evict(hub: &mut Hub, key: u64, weight: u16, i: usize, v: Record)
     track(hub, key, weight, i);
 }
 
-// Steps 3 and 4: the place of the record that an untracked key has then, the first free one or the victim's, if there is one.
-#[tactic(auto, unfolding(rules::specs::Steps::place))]
-fn place_untracked(hub: &mut Hub, key: u64, weight: u16) -> Option<usize>
-    requires { HeatsFit (memory hub.old) × LinesFit (memory hub.old) × (hub.old.gauge.now.serial < serial_limit) }
-    ensures same_lent { SameLent hub.old hub.new }
-    ensures placed { admitted result (memory hub.new) ≡ place (memory hub.old) key weight None (free_record (record_at hub.old.table.now) (record_count hub.old.table.now)) (victim (record_at hub.old.table.now) (record_count hub.old.table.now)) }
-    ensures admits { Admits result (memory hub.new) }
-{
-    let table = &mut *hub.table;
-    match replaceable(table) {
-        Replacement::Free(i) => {
-            track(hub, key, weight, i);
-            Some(i)
-        }
-        Replacement::Victim(i, v) => {
-            evict(hub, key, weight, i, v);
-            Some(i)
-        }
-        Replacement::Nothing => None,
-    }
-}
-
-// Steps 2 to 4: the place of the record that the key has then, if it has one.
-#[tactic(auto, unfolding(rules::specs::Steps::read_counted, rules::specs::Steps::place, rules::specs::Table::places, rules::specs::Table::size, rules::specs::Table::heated, rules::specs::Table::write, rules::specs::Table::with_table))]
+// Steps 2 to 4: the place of the record that the key has then, if it has one. One walk finds the key's record, or else the first free one
+// and the victim.
+#[tactic(auto, unfolding(rules::specs::Steps::read_counted, rules::specs::Steps::place, rules::specs::Table::places, rules::specs::Table::size, rules::specs::Table::heated, rules::specs::Table::write, rules::specs::Table::with_table), using(tracker::proofs::Walking::own_is, tracker::proofs::Walking::own_inside, tracker::proofs::Walking::free_is, tracker::proofs::Walking::free_inside, tracker::proofs::Walking::victim_is, tracker::proofs::Walking::victim_inside))]
 fn place(hub: &mut Hub, key: u64, weight: u16) -> Option<usize>
     requires { HeatsFit (memory hub.old) × LinesFit (memory hub.old) × (hub.old.gauge.now.serial < serial_limit) }
     ensures same_lent { SameLent hub.old hub.new }
@@ -110,17 +89,23 @@ fn place(hub: &mut Hub, key: u64, weight: u16) -> Option<usize>
     ensures admits { Admits result (memory hub.new) }
 {
     let table = &mut *hub.table;
-    let Some((i, r)) = key_record(table, key) else {
-        return place_untracked(hub, key, weight);
-    };
-    put_record(table, i, heated(weight, r));
+    let found = walk(table, key);
+    if let Some(i) = some_place(found.own) {
+        put_record(table, i, heated(weight, record_at(table, i)));
+        return Some(i);
+    }
+    if let Some(i) = some_place(found.free) {
+        track(hub, key, weight, i);
+        return Some(i);
+    }
+    let i = some_place(found.victim)?;
+    let v = record_at(table, i);
+    evict(hub, key, weight, i, v);
     Some(i)
 }
 
-// Steps 5 and 6: the record gets a line if it may, and the answer says how it stands. (Not inlined, as the order test is not: its loop
-// over the records has to be aligned.)
+// Steps 5 and 6: the record gets a line if it may, and the answer says how it stands.
 #[tactic(auto, unfolding(rules::specs::Bytes::record_count, rules::specs::Steps::admission, rules::specs::Table::places))]
-#[inline(never)]
 fn admission(hub: &mut Hub, i: usize) -> Answer
     requires { Admits (Some i) (memory hub.old) }
     ensures same_lent { SameLent hub.old hub.new }

@@ -1,45 +1,50 @@
--- The coldest record on a line, a record further, at the heat that counts: one that is not below the least leaves what is known, one
--- that is below it is the coldest. Assumes nothing.
+-- The coldest record that passes a test, a record further, by heats: the largest number stands for none. Assumes nothing.
 use Prim.Native.Nat.{ℕ, ◌+◌, ◌≤◌, ◌<◌}
-use mathlib.Core.Path.{◌≡◌, sym, ◌∙◌}
+use mathlib.Core.Path.{◌≡◌, refl}
+use mathlib.Core.Bool.{Bool, true, false, ◌&&◌}
 use native.Mathlib.Numerals.{add-one}
 use native.Mathlib.Omega.{arith}
 use borrow.Author.Tests.{lt-ltb, le-ltb}
 use Rattle.rules.specs.declared.Record.{Record}
-use Rattle.std.specs.Prelude.{Some, None}
+use Rattle.std.specs.Prelude.{Some, None, ltb, if◌then◌else◌}
 use Rattle.std.proofs.lemmas.Grind.{common_steps}
 use Rattle.rules.specs.Pass.{Found, pass, best, best_of}
 use Rattle.rules.specs.Table.{is_lined, colder, coldest_lined}
-use Rattle.tracker.specs.Claiming.{largest, lined_heat, heat_of, held_at, Coldest}
+use Rattle.tracker.specs.Claiming.{largest, heat_of, held_at}
 
-pub coldest_none : (f : ℕ → Record) (n : ℕ) → Coldest f n 0 n largest
-unfolding coldest_lined best_of pass heat_of
-coldest_none f n = let none = le-ltb n n (omega arith) in record { holds = rw none; heat = rw none; most = omega arith }
+-- whether a record is the coldest that passes a test, by its heat and that of the one found, or the largest number where there is none
+pub coldest_first : (test : Record → Bool) (i : ℕ) (r : Record) (heat : ℕ) (found : Found) → r.heat < largest → heat ≡ heat_of found →
+    best test colder found i r ≡ (if test r && ltb r.heat heat then Some (i, r) else found)
+unfolding best colder heat_of
+coldest_first test i r heat None below is = rw (is, lt-ltb r.heat largest below) (go (test r))
+  where
+    go : (b : Bool) → (if◌then◌else◌ {A = Found} b (Some (i, r)) None) ≡ (if b && true then Some (i, r) else None)
+    go true = refl
+    go false = refl
+coldest_first test i r heat (Some (j, s)) below is = rw is refl
 
--- the step, by whether the heat that counts is below that of the held one
-module _ (i : ℕ) (r : Record) where
-  takes : (held : Found) → heat_of held ≤ largest → lined_heat r < heat_of held →
-      (best is_lined colder held i r ≡ Some (i, r)) × (lined_heat r ≡ r.heat)
-  unfolding best colder lined_heat heat_of
-  takes None most less = grind (arith, common_steps)
-  takes (Some (j, s)) most less = grind (arith, common_steps)
+-- the coldest record on a line, a record further
+module _ (f : ℕ → Record) (n : ℕ) where
+  pub coldest_none : (held_at f n n ≡ coldest_lined f 0) × (largest ≡ heat_of (held_at f n n))
+  unfolding coldest_lined best_of pass heat_of
+  coldest_none = (rw (le-ltb n n (omega arith)) refl, rw (le-ltb n n (omega arith)) refl)
 
-  leaves : (held : Found) → r.heat < largest → heat_of held ≤ lined_heat r → best is_lined colder held i r ≡ held
-  unfolding best colder lined_heat heat_of
-  leaves None fits above = grind (arith, common_steps)
-  leaves (Some (j, s)) fits above = grind (arith, common_steps)
+  module _ (i best least : ℕ) (r : Record) (read : r ≡ f i) (below : r.heat < largest)
+      (so_far : held_at f n best ≡ coldest_lined f i) (heat : least ≡ heat_of (held_at f n best)) where
+    coldest_next : coldest_lined f (i + 1) ≡ (if is_lined r && ltb r.heat least then Some (i, r) else held_at f n best)
+    unfolding coldest_lined best_of pass
+    coldest_next = rw (add-one, ← so_far, ← read) (coldest_first is_lined i r least (held_at f n best) below heat)
 
-module _ (f : ℕ → Record) (n i place least : ℕ) (so_far : Coldest f n i place least) where
-  step : coldest_lined f (i + 1) ≡ best is_lined colder (held_at f n place) i (f i)
-  unfolding coldest_lined best_of pass
-  step = rw (add-one, so_far.holds)
+    pub coldest_moves : i < n → is_lined r ≡ true → r.heat < least →
+        (held_at f n i ≡ coldest_lined f (i + 1)) × (r.heat ≡ heat_of (held_at f n i))
+    unfolding heat_of
+    coldest_moves inside lined colder = (
+      rw (coldest_next, lined, lt-ltb r.heat least colder, lt-ltb i n inside, read) refl,
+      rw (lt-ltb i n inside, read) refl,
+    )
 
-  pub coldest_moves : i < n → lined_heat (f i) < least → Coldest f n (i + 1) i (lined_heat (f i))
-  unfolding heat_of
-  coldest_moves inside less =
-      let (took, heat) = takes i (f i) (held_at f n place) (rw so_far.heat at so_far.most) (rw so_far.heat at less) in
-      record { holds = rw (lt-ltb i n inside, step, took); heat = rw (lt-ltb i n inside) heat; most = omega (arith, so_far.most) }
+    pub coldest_stays : least ≤ r.heat → held_at f n best ≡ coldest_lined f (i + 1)
+    coldest_stays warmer = rw coldest_next (grind (arith, common_steps))
 
-  pub coldest_stays : (f i).heat < largest → least ≤ lined_heat (f i) → Coldest f n (i + 1) place least
-  coldest_stays fits above =
-      record { holds = sym (step ∙ leaves i (f i) _ fits (rw so_far.heat at above)); heat = so_far.heat; most = so_far.most }
+    pub coldest_off : is_lined r ≡ false → held_at f n best ≡ coldest_lined f (i + 1)
+    coldest_off unlined = rw (coldest_next, unlined) refl

@@ -1,4 +1,4 @@
 pub mod Claiming
 pub mod Marks
-pub mod Replacing
 pub mod Stops
+pub mod Walking

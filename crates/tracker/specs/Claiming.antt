@@ -1,20 +1,21 @@
--- The search for a line: what is known of the coldest record on a line among the first i records, and what is found.
-use Rattle.std.specs.Prelude.{ℕ, ◌*◌, ◌≤◌, ◌<◌, ◌≡◌, ltb, if◌then◌else◌, Option, Some, None}
+-- The search for a line: what it asks of the records, and what is found.
+use Rattle.std.specs.Prelude.{ℕ, ◌+◌, ◌*◌, ◌≤◌, ◌<◌, ◌≡◌, ltb, if◌then◌else◌, Option, Some, None}
 use Rattle.rules.specs.declared.Record.{Record}
 use Rattle.rules.specs.Pass.{Found}
-use Rattle.rules.specs.Table.{is_lined, coldest_lined, lowest_unused}
+use Rattle.rules.specs.Table.{coldest_lined, lowest_unused}
 
--- more than any heat
+-- more than any heat, and the place of no record
 abbrev pub largest : ℕ
 largest = 18446744073709551615
 
--- half of every state is below size, and every heat below the largest number
-pub record ClaimFits (f : ℕ → Record) (n size : ℕ) : Type 0 where
-  pub state : (i : ℕ) → i < n → (f i).state < 2 * size
-  pub heat : (i : ℕ) → i < n → (f i).heat < largest
+-- no heat is the largest number
+abbrev pub HeatsUnder : (ℕ → Record) → ℕ → Type 0
+HeatsUnder f n = (i : ℕ) → i < n → (f i).heat < largest
 
-unfoldable pub lined_heat : Record → ℕ
-lined_heat r = if is_lined r then r.heat else largest
+-- every line that a record is on is one of so many, and no heat is the largest number
+pub record ClaimFits (f : ℕ → Record) (n lines : ℕ) : Type 0 where
+  pub state : (i : ℕ) → i < n → (f i).state ≤ 1 + 2 * lines
+  pub heat : HeatsUnder f n
 
 unfoldable pub heat_of : Found → ℕ
 heat_of None = largest
@@ -23,12 +24,6 @@ heat_of (Some (i, r)) = r.heat
 -- the record at a place, if that is below n
 abbrev pub held_at : (ℕ → Record) → ℕ → ℕ → Found
 held_at f n place = if ltb place n then Some (place, f place) else None
-
--- after i records: the one held at the place is the coldest, and least its heat, or the largest number where none is held
-pub record Coldest (f : ℕ → Record) (n i place least : ℕ) : Type 0 where
-  pub holds : held_at f n place ≡ coldest_lined f i
-  pub heat : least ≡ heat_of (held_at f n place)
-  pub most : least ≤ largest
 
 -- a number, if it is below most
 abbrev pub below : ℕ → ℕ → Option ℕ

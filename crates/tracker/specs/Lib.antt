@@ -1,3 +1,3 @@
 pub mod Claiming
 pub mod Marks
-pub mod Replacing
+pub mod Walking

@@ -1,17 +1,18 @@
 // What a pass over the table finds.
 #![tactic(auto)]
 
-ghost use Rattle.std.specs.Prelude.{Bool, ◌≡◌, ◌+◌, ◌<◌, length};
+ghost use Rattle.std.specs.Prelude.{ℕ, Bool, ◌&&◌, ◌≡◌, ◌≤◌, ◌<◌, length, if◌then◌else◌, Some};
 ghost use Rattle.rules.specs.Bytes.{record_at, record_count};
 ghost use Rattle.rules.specs.declared.Record.{Record};
-ghost use Rattle.rules.specs.Pass.{first_of};
-ghost use Rattle.rules.specs.Table.{has_key, key_record, coldest_lined, hottest_unlined, lookup};
+ghost use Rattle.rules.specs.Pass.{Found, first, best, first_of};
+ghost use Rattle.rules.specs.Table.{is_free, is_unlined, has_key, key_record, leaves, coldest_lined, hottest_unlined, lookup};
+ghost use Rattle.rules.specs.Walk.{walk_step, walk};
 ghost use Rattle.rules.specs.Answers.{lookup_said};
 ghost use Rattle.rules.specs.Calls.{most_records};
 ghost use Rattle.rules.specs.Numbers.{key_said};
-ghost use Rattle.tracker.specs.Claiming.{ClaimFits, lined_heat, below, IsClaim};
+ghost use Rattle.tracker.specs.Claiming.{largest, heat_of, HeatsUnder, ClaimFits, below, IsClaim};
 ghost use Rattle.tracker.specs.Marks.{Unmarked, Marks, lowest_unmarked};
-ghost use Rattle.tracker.specs.Replacing.{is_off_line, ColdestYet, serves, IsReplaceable};
+ghost use Rattle.tracker.specs.Walking.{at, found_in, held_records, HeatHeld, walked};
 
 use fields::{is_filled, is_free, is_lined, is_unlined, line_of};
 use records::{record_at, record_count};
@@ -70,67 +71,109 @@ pub fn lookup(table: &[u8], key: u64) -> Lookup
     }
 }
 
-// ---- the record that an untracked key gets
+// ---- one walk for a key that may be untracked
 
-// What an untracked key can replace.
+// The place of no record.
+const NONE: usize = usize::MAX;
+
+// What the walk holds, in places and numbers: the places of the key's record, of the first free one and of the victim, each NONE where
+// there is none, and the victim's heat, or the largest number.
 #[derive(Clone, Copy, Debug)]
-pub enum Replacement {
-    // The place of the first free record.
-    Free(usize),
-    // Where none is free, the coldest record without a line, which is evicted: its place and the record.
-    Victim(usize, Record),
-    // Where every record is on a line, nothing.
-    Nothing,
+pub struct Held {
+    pub own: usize,
+    pub free: usize,
+    pub victim: usize,
+    pub heat: u64,
 }
 
-// The first record that is on no line.
-fn first_off_line(table: &[u8]) -> Option<(usize, Record)>
-    ensures { result ≡ first_of is_off_line (record_at table.now) (record_count table.now) }
+// A place, if it is that of a record.
+pub fn some_place(place: usize) -> Option<usize>
+    ensures { (f : ℕ → Record) → found_in f result ≡ at f place }
 {
-    first(table, |r| !is_lined(r))
+    if place == NONE { None } else { Some(place) }
 }
 
-// Whether a record is free, or without a line and colder than the one that is held. (By number: with tests of the state a call takes 11
-// to 19 in 100 longer at 128 records and more.)
-#[tactic(auto, unfolding(crate::specs::Replacing::serves, rules::specs::Table::is_free, rules::specs::Table::is_unlined))]
-fn serves(r: Record, least: u64) -> bool
-    ensures { result ≡ serves least r }
+// The first place that passes: the one that is held, or else this one, if it passes.
+#[tactic(auto, unfolding(rules::specs::Pass::first))]
+fn first_place(held: usize, i: usize, passes: bool) -> usize
+    requires { i < largest }
+    ensures { (test : Record → Bool) (f : ℕ → Record) (r : Record) → r ≡ f i → passes ≡ test r → at f result ≡ first test (at f held) i r }
 {
-    let limit = if r.heat < least { 2 } else { 1 };
-    r.state < limit
+    if passes && held == NONE { i } else { held }
 }
 
-// What an untracked key can replace, given a place up to which no record is free and the coldest without a line is the one there.
-#[tactic(auto, unfolding(rules::specs::Bytes::record_count, rules::specs::Table::free_record, rules::specs::Table::is_free), using(crate::proofs::Stops::found_here))]
-fn replaceable_after(table: &[u8], held: usize) -> Replacement
-    requires { (held < record_count table.now) × ColdestYet (record_at table.now) (held + 1) held }
-    ensures { IsReplaceable (record_at table.now) (record_count table.now) result }
+// The order of step 4: whether a record leaves before the victim that is held, if one is.
+#[tactic(auto, unfolding(rules::specs::Table::leaves), using(crate::proofs::Claiming::coldest_first))]
+fn leaves(r: Record, held: Held) -> bool
+    requires { r.heat < largest }
+    ensures { (i : ℕ) (found : Found) → held.heat ≡ heat_of found → best is_unlined leaves found i r ≡ (if is_unlined r && result then Some (i, r) else found) }
 {
-    let mut best = held;
-    let mut least = record_at(table, held).heat;
-    for i in held + 1..record_count(table) {
-        let r = record_at(table, i);
-        if serves(r, least) {
-            if is_free(r) {
-                return Replacement::Free(i);
-            }
-            best = i;
-            least = r.heat;
+    r.heat < held.heat
+}
+
+// The key's record and the first free one, a record further.
+#[tactic(auto, using(crate::proofs::Walking::key_of_free, crate::proofs::Walking::key_alone, crate::proofs::Walking::free_of_taken))]
+fn first_step(held: Held, key: u64, i: usize, r: Record) -> Held
+    requires { i < largest }
+    ensures own { (f : ℕ → Record) → r ≡ f i → at f result.own ≡ first (has_key key) (at f held.own) i r }
+    ensures free { (f : ℕ → Record) → r ≡ f i → at f result.free ≡ first is_free (at f held.free) i r }
+    ensures victim { (result.victim ≡ held.victim) × (result.heat ≡ held.heat) }
+{
+    if is_free(r) {
+        Held {
+            free: first_place(held.free, i, true),
+            ..held
+        }
+    } else {
+        Held {
+            own: first_place(held.own, i, r.key == key),
+            ..held
         }
     }
-    Replacement::Victim(best, record_at(table, best))
 }
 
-// What an untracked key can replace, in one pass that stops at a free record.
-#[tactic(auto, using(crate::proofs::Replacing::free_first))]
-pub fn replaceable(table: &[u8]) -> Replacement
-    ensures { IsReplaceable (record_at table.now) (record_count table.now) result }
+// The walk, a record further: by the key, what it holds and that record with its place. (The heat is asked first, and by itself, since few
+// tracked records are colder than the victim: of tests joined by `&&` the compiler makes both for every record, and the walk takes 1.4 to
+// 2.5 times as long.)
+#[tactic(auto, unfolding(rules::specs::Walk::walk_step), using(crate::proofs::Walking::held_here))]
+fn walk_step(held: Held, key: u64, i: usize, r: Record) -> Held
+    requires { (i < largest) × (r.heat < largest) }
+    ensures { (f : ℕ → Record) → r ≡ f i → HeatHeld f held → (held_records f result ≡ walk_step key (held_records f held) i r) × HeatHeld f result }
 {
-    match first_off_line(table) {
-        None => Replacement::Nothing,
-        Some((i, r)) if is_free(r) => Replacement::Free(i),
-        Some((i, _)) => replaceable_after(table, i),
+    if !leaves(r, held) {
+        first_step(held, key, i, r)
+    } else if is_unlined(r) {
+        Held {
+            victim: i,
+            heat: r.heat,
+            ..first_step(held, key, i, r)
+        }
+    } else {
+        first_step(held, key, i, r)
     }
+}
+
+// The walk over the table. It stops at the key's record, and not at a free one, after which the key's may come. (Not inlined, as the order
+// test is not: its loop has to be aligned.)
+#[tactic(auto, unfolding(rules::specs::Bytes::record_count, rules::specs::Walk::walk, rules::specs::Pass::pass, crate::specs::Claiming::heat_of), using(rules::proofs::Walks::walk_next, crate::proofs::Walking::nowhere_yet))]
+#[inline(never)]
+pub fn walk(table: &[u8], key: u64) -> Held
+    requires { HeatsUnder (record_at table.now) (record_count table.now) }
+    ensures { held_records (record_at table.now) result ≡ walk key (record_at table.now) (walked (record_count table.now) (key_record key (record_at table.now) (record_count table.now))) }
+{
+    let mut held = Held {
+        own: NONE,
+        free: NONE,
+        victim: NONE,
+        heat: u64::MAX,
+    };
+    for i in 0..record_count(table) {
+        held = walk_step(held, key, i, record_at(table, i));
+        if held.own != NONE {
+            return held;
+        }
+    }
+    held
 }
 
 // ---- searches that see every record
@@ -159,31 +202,23 @@ pub struct Claim {
     pub coldest: Option<(usize, Record)>,
 }
 
-// The heat of a record on a line; where it is on none, the largest number.
-#[tactic(auto, unfolding(crate::specs::Claiming::lined_heat))]
-fn lined_heat(r: Record) -> u64
-    ensures { result ≡ lined_heat r }
-{
-    if is_lined(r) { r.heat } else { u64::MAX }
-}
-
-// Marks the line of every record, line n at n + 1, and finds the coldest record on a line. A record that is on none marks place 0.
-#[tactic(auto, unfolding(rules::specs::Bytes::record_count), using(crate::proofs::Marks::marks_none, crate::proofs::Claiming::coldest_none))]
+// Marks the line of every record that is on one, and finds the coldest of these records.
+#[tactic(auto, unfolding(rules::specs::Bytes::record_count, rules::specs::Table::is_lined, rules::specs::Table::line_of), using(crate::proofs::Marks::marks_none, crate::proofs::Claiming::coldest_none))]
 fn mark_lines(table: &[u8], used: &mut [bool]) -> Option<(usize, Record)>
     requires { Unmarked used.old × ClaimFits (record_at table.now) (record_count table.now) (length used.old) }
     ensures { Marks (record_at table.now) (record_count table.now) used.new × (result ≡ coldest_lined (record_at table.now) (record_count table.now)) }
 {
-    // With a branch at the state and an Option of the record in hand a call takes 4 to 10 in 100 longer at 128 records and more.
     let n = record_count(table);
     let mut best = n;
     let mut least = u64::MAX;
     for i in 0..n {
         let r = record_at(table, i);
-        used[(r.state / 2) as usize] = true;
-        let heat = lined_heat(r);
-        if heat < least {
-            best = i;
-            least = heat;
+        if is_lined(r) {
+            used[line_of(r)] = true;
+            if r.heat < least {
+                best = i;
+                least = r.heat;
+            }
         }
     }
     if best < n {
@@ -195,16 +230,17 @@ fn mark_lines(table: &[u8], used: &mut [bool]) -> Option<(usize, Record)>
 
 // The lowest of the first lines that has no mark.
 fn lowest_unmarked(used: &[bool], lines: usize) -> Option<usize>
-    requires { lines < length used.now }
+    requires { lines ≤ length used.now }
     ensures { result ≡ below lines (lowest_unmarked used.now lines) }
 {
-    used[1..=lines].iter().position(|mark| !*mark)
+    used[..lines].iter().position(|mark| !*mark)
 }
 
-// What a record without a line can claim, over marks that are all clear.
+// What a record without a line can claim, over marks that are all clear. (Not inlined, as the order test is not.)
 #[tactic(auto, using(crate::proofs::Marks::lowest_unmarked_unused))]
+#[inline(never)]
 fn claim_marking(table: &[u8], lines: usize, used: &mut [bool]) -> Claim
-    requires { Unmarked used.old × (lines < length used.old) × ClaimFits (record_at table.now) (record_count table.now) (length used.old) }
+    requires { Unmarked used.old × (lines ≤ length used.old) × ClaimFits (record_at table.now) (record_count table.now) lines }
     ensures { IsClaim (record_at table.now) (record_count table.now) lines result.line result.coldest }
 {
     let coldest = mark_lines(table, used);
@@ -214,10 +250,10 @@ fn claim_marking(table: &[u8], lines: usize, used: &mut [bool]) -> Claim
 
 // What a record without a line can claim, in one pass over the records and one over the lines. Few lines want few marks.
 pub fn claimable(table: &[u8], lines: usize) -> Claim
-    requires { (lines < most_records) × ClaimFits (record_at table.now) (record_count table.now) (lines + 1) }
+    requires { (lines ≤ most_records) × ClaimFits (record_at table.now) (record_count table.now) lines }
     ensures { IsClaim (record_at table.now) (record_count table.now) lines result.line result.coldest }
 {
-    if lines < FEW {
+    if lines <= FEW {
         let mut few = [false; FEW];
         claim_marking(table, lines, &mut few)
     } else {

@@ -1,5 +1,5 @@
-use Rattle.std.proofs.Common.{rules, not, ◌+◌, ◌∙◌}
-use Rattle.std.specs.List.{slice_range}
+use Rattle.std.proofs.Common.{rules, not, ◌∙◌}
+use Rattle.std.specs.Prelude.{take}
 use Rattle.std.proofs.lemmas.Iterator.{YieldsList-from_slice}
 use Rattle.std.proofs.lemmas.Iterator.Search.{position_from_yields_List}
 use borrow.Author.Tests.{tests}
@@ -9,5 +9,5 @@ use Rattle.tracker.proofs.lowest_unmarked.Goals as goal
 pub returns : goal.returns
 returns c =
     position_from_yields_List not _ _ c.position.result c.position.ensures.ran
-    (YieldsList-from_slice (slice_range c.args.used.now 1 (c.args.lines + 1)) cc) (λ x b q k. search (rules, tests))
+    (YieldsList-from_slice (take c.args.lines c.args.used.now) cc) (λ x b q k. search (rules, tests))
     ∙ clear_is_unmarked _ _ c.requires

@@ -1,0 +1,29 @@
+-- What the walk in code holds, in places and numbers, of what the walk of document 02 holds.
+use Rattle.std.specs.Prelude.{ℕ, ◌+◌, ◌≡◌, Option, Some, None}
+use Rattle.rules.specs.declared.Record.{Record}
+use Rattle.tracker.specs.declared.Held.{Held}
+use Rattle.rules.specs.Pass.{Found}
+use Rattle.rules.specs.Walk.{Walk}
+use Rattle.tracker.specs.Claiming.{largest, heat_of, held_at}
+
+-- the record at a place; the largest number is the place of none
+abbrev pub at : (ℕ → Record) → ℕ → Found
+at f = held_at f largest
+
+-- the record at a place, if it is that of one
+abbrev pub found_in : (ℕ → Record) → Option ℕ → Found
+found_in f None = None
+found_in f (Some i) = Some (i, f i)
+
+-- the records at the places that are held
+abbrev pub held_records : (ℕ → Record) → Held → Walk
+held_records f held = record { own = at f held.own; free = at f held.free; victim = at f held.victim }
+
+-- the heat that is held is the victim's, or the largest number where there is none
+abbrev pub HeatHeld : (ℕ → Record) → Held → Type 0
+HeatHeld f held = held.heat ≡ heat_of (at f held.victim)
+
+-- how many of n records are walked over, where the walk stops at the key's
+abbrev pub walked : ℕ → Found → ℕ
+walked n None = n
+walked n (Some (i, r)) = i + 1
