@@ -65,13 +65,16 @@ static bool in_order(const uint8_t *table, size_t table_len,
     for (const uint8_t *r = table; r < end; r += RECORD_BYTES) {
         uint64_t heat = get(r + HEAT);
         uint64_t state = get(r + STATE);
-        if (heat > total || state > 1 + 2 * lines)
+        if (heat > total)
             return false;
-        if (on_line(state))
+        if (state == TRACKED) {
+            if (get(r + TICKET) != 0)
+                return false;
+        } else if (state - 2 < 2 * lines) { /* on a line that is there */
             used++;
-        else if (get(r + TICKET) != 0 ||
-                 (state == FREE && (get(r + KEY) | heat | get(r + SLACK)) != 0))
+        } else if ((get(r + KEY) | heat | get(r + SLACK) | state | get(r + TICKET)) != 0) {
             return false;
+        }
     }
     return used <= lines;
 }
@@ -93,24 +96,34 @@ static uint8_t *find(uint8_t *table, size_t table_len, uint64_t key)
     return NULL;
 }
 
-/* The record that an untracked key gets: the first free one, else the coldest
- * without a line. A table in order has one of the two, since C is under K. */
-static uint8_t *replaceable(uint8_t *table, size_t table_len)
+/* What a walk over the table holds: the key's record, at which it stops, the
+ * first free record, and the coldest without a line; NULL where there is none. */
+struct walk { uint8_t *own, *free_one, *victim; };
+
+static struct walk walk(uint8_t *table, size_t table_len, uint64_t key)
 {
     uint8_t *end = table + table_len;
-    uint8_t *coldest = NULL;
+    struct walk held = { NULL, NULL, NULL };
     uint64_t least = UINT64_MAX;
 
     for (uint8_t *r = table; r < end; r += RECORD_BYTES) {
+        uint64_t heat = get(r + HEAT);
         uint64_t state = get(r + STATE);
-        if (state == FREE)
-            return r;
-        if (state == TRACKED && get(r + HEAT) < least) {
-            least = get(r + HEAT);
-            coldest = r;
+        if (state == FREE) {
+            if (!held.free_one)
+                held.free_one = r;
+            continue;
+        }
+        if (heat < least && state == TRACKED) {
+            least = heat;
+            held.victim = r;
+        }
+        if (get(r + KEY) == key) {
+            held.own = r;
+            break;
         }
     }
-    return coldest;
+    return held;
 }
 
 /* The hottest record without a line, or NULL where there is none. */
@@ -189,12 +202,10 @@ static void halve(uint8_t *table, size_t table_len, uint8_t *gauge)
     put(gauge + CEILING, get(gauge + CEILING) / 2);
 }
 
-/* Puts an untracked key into the table and returns its record. The record has
- * no line, so its ticket is 0 already. */
-static uint8_t *track(uint8_t *table, size_t table_len, uint8_t *gauge,
-                      uint64_t key, uint64_t weight)
+/* Record r, which is free or the victim, becomes an untracked key's. It has no
+ * line, so its ticket is 0 already. */
+static void track(uint8_t *r, uint8_t *gauge, uint64_t key, uint64_t weight)
 {
-    uint8_t *r = replaceable(table, table_len);
     uint64_t ceiling = get(gauge + CEILING);
 
     if (get(r + HEAT) > ceiling) { /* a free record has heat 0 */
@@ -205,7 +216,6 @@ static uint8_t *track(uint8_t *table, size_t table_len, uint8_t *gauge,
     put(r + HEAT, ceiling + weight);
     put(r + SLACK, ceiling);
     put(r + STATE, TRACKED);
-    return r;
 }
 
 /* What a read answers of record r. A wanted gives its ticket. */
@@ -234,6 +244,7 @@ uint64_t plain_read(uint8_t *table, size_t table_len,
                     uint64_t key, uint64_t weight,
                     uint8_t *ticket, size_t ticket_len)
 {
+    struct walk held;
     uint8_t *r;
 
     (void)lines;
@@ -253,11 +264,14 @@ uint64_t plain_read(uint8_t *table, size_t table_len,
         halve(table, table_len, gauge);
     put(gauge + TOTAL, get(gauge + TOTAL) + weight);
 
-    r = find(table, table_len, key);
-    if (r)
+    held = walk(table, table_len, key);
+    r = held.own;
+    if (r) {
         put(r + HEAT, get(r + HEAT) + weight);
-    else
-        r = track(table, table_len, gauge, key, weight);
+    } else {
+        r = held.free_one ? held.free_one : held.victim; /* one is there, since C is under K */
+        track(r, gauge, key, weight);
+    }
 
     if (!on_line(get(r + STATE)))
         claim_line(table, table_len, gauge, lines_len / LINE_BYTES, r);

@@ -16,17 +16,18 @@ mkdir -p "$out"
 gcc "${flags[@]}" -c bench/speed.c -o "$out/speed.o"
 gcc "${flags[@]}" -c bench/plain.c -o "$out/plain.o"
 gcc "${flags[@]}" "$padding" -c bench/plain.c -o "$out/padded.o"
-gcc "${flags[@]}" -Iinclude -o "$out/rare" bench/rare.c "$out/plain.o" "$library" -lm
+gcc "${flags[@]}" -Iinclude -c bench/rare.c -o "$out/rare.o"
 gcc "${flags[@]}" "$padding" -o "$out/width" bench/width.c
 
-# The place of a loop in memory changes its speed by up to a tenth. The program
-# is linked at four places, 16 bytes apart; the best of the four counts.
+# The place of a loop in memory changes its speed. The programs are linked at
+# four places, 16 bytes apart; the best of the four counts.
 for place in 16 32 48 64; do
     printf '.text\n.zero %d\n.section .note.GNU-stack,"",@progbits\n' "$place" |
         gcc -c -x assembler - -o "$out/place.o"
     for version in plain padded; do
         gcc -o "$out/$version-$place" "$out/place.o" "$out/speed.o" "$out/$version.o" "$library" -lm
     done
+    gcc -o "$out/rare-$place" "$out/place.o" "$out/rare.o" "$out/plain.o" "$library" -lm
 done
 
 echo "machine: $(awk -F": " "/^model name/ { print \$2; exit }" /proc/cpuinfo), $(nproc) processors; $(gcc --version | head -n 1)"
@@ -57,7 +58,19 @@ awk -F'|' '
 echo
 echo "Nanoseconds a call that is rare, best of all runs:"
 echo
-"$out/rare"
+for place in 16 32 48 64; do
+    "$out/rare-$place" > "$out/rare-$place.txt"
+done
+awk -F'|' '
+    FNR < 3 { if (NR == FNR) print; next }
+    { row = $2 "|" $3 }
+    !(row in library) { rows[++n] = row; library[row] = $4; plain[row] = $5 }
+    $4 + 0 < library[row] + 0 { library[row] = $4 }
+    $5 + 0 < plain[row] + 0 { plain[row] = $5 }
+    END {
+        for (i = 1; i <= n; i++)
+            printf "|%s|%s|%s| %5.2f |\n", rows[i], library[rows[i]], plain[rows[i]], library[rows[i]] / plain[rows[i]]
+    }' "$out"/rare-{16,32,48,64}.txt
 
 echo
 echo "Nanoseconds an order test in plain C, by the width of a record:"

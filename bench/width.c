@@ -27,11 +27,13 @@ static inline bool in_order_but_tickets(const uint8_t *table, size_t table_len,
     for (const uint8_t *r = table; r < end; r += record_bytes) {
         uint64_t heat = get(r + HEAT);
         uint64_t state = get(r + STATE);
-        if (heat > total || state > 1 + 2 * lines)
+        if (heat > total)
             return false;
-        if (on_line(state))
+        if (state == TRACKED)
+            continue;
+        if (state - 2 < 2 * lines)
             used++;
-        else if (state == FREE && (get(r + KEY) | heat | get(r + SLACK)) != 0)
+        else if ((get(r + KEY) | heat | get(r + SLACK) | state) != 0)
             return false;
     }
     return used <= lines;

@@ -1,0 +1,202 @@
+/* Times single reads, looks and updates by what they find in the table: the
+ * library beside plain C, as the compiler lays it out and with padded jumps,
+ * and beside an older library where -DOLDER links one.
+ *
+ * Prints a line for each case and K: case, K and nanoseconds a call of each
+ * side, parted by '|'; exit 1 where two sides differ. */
+#include "clock.h"
+#include "cot.h"
+
+#include <math.h>
+#include <stdbool.h>
+#include <stdio.h>
+#include <string.h>
+
+enum { MOST_CALLS = 64, ROUNDS = 400 };
+
+typedef uint64_t read_call(uint8_t *, size_t, uint8_t *, size_t, const uint8_t *, size_t,
+                           uint64_t, uint64_t, uint8_t *, size_t);
+typedef uint64_t update_call(uint8_t *, size_t, uint8_t *, size_t, const uint8_t *, size_t,
+                             uint64_t, uint64_t);
+
+extern read_call plain_read, padded_read, older_read;
+extern update_call plain_update, padded_update, older_update;
+
+static const struct side {
+    read_call *read;
+    update_call *update;
+} sides[] = {
+    { cot_read, cot_update },
+    { plain_read, plain_update },
+    { padded_read, padded_update },
+#ifdef OLDER
+    { older_read, older_update },
+#endif
+};
+enum { SIDES = sizeof sides / sizeof *sides };
+
+struct memory {
+    size_t table_len, lines_len;
+    uint8_t table[COT_MOST_RECORDS * COT_RECORD_BYTES];
+    uint8_t gauge[COT_GAUGE_BYTES];
+    uint8_t lines[COT_MOST_RECORDS * COT_LINE_BYTES];
+    uint8_t ticket[COT_TICKET_BYTES];
+};
+
+enum key { NEW_KEYS, FIRST_ON_LINE, LAST_ON_LINE, HALF_WAY, LAST, NOWHERE };
+
+static const struct test {
+    const char *name;
+    bool half_free, update;
+    uint64_t weight;
+    enum key key;
+} tests[] = {
+    { "read, untracked, none free", false, false, 1, NEW_KEYS },
+    { "read, untracked, half free", true, false, 1, NEW_KEYS },
+    { "read, first on a line", false, false, 1, FIRST_ON_LINE },
+    { "read, last on a line", false, false, 1, LAST_ON_LINE },
+    { "read, half-way, no line", false, false, 1, HALF_WAY },
+    { "read, last, no line", false, false, 1, LAST },
+    { "look, untracked", false, false, 0, NOWHERE },
+    { "look, untracked, half free", true, false, 0, NOWHERE },
+    { "update, untracked", false, true, 1, NOWHERE },
+};
+enum { TESTS = sizeof tests / sizeof *tests };
+
+static uint64_t next_random(void)
+{
+    static uint64_t state = 88172645463325252u;
+
+    state ^= state << 13;
+    state ^= state >> 7;
+    return state ^= state << 17;
+}
+
+static void put(uint8_t *p, uint64_t n)
+{
+    for (int i = 0; i < 8; i++)
+        p[i] = (uint8_t)(n >> 8 * i);
+}
+
+/* K records, or half as many and the rest free, with key n at place n; a
+ * quarter of those that are taken, at random places and not the last, are the
+ * hottest and on filled lines. */
+static void fill(struct memory *m, size_t k, bool half_free)
+{
+    size_t taken = half_free ? k / 2 : k, lined = 0;
+    uint64_t total = 0;
+
+    memset(m, 0, sizeof *m);
+    m->table_len = k * COT_RECORD_BYTES;
+    m->lines_len = taken / 4 * COT_LINE_BYTES;
+    for (size_t n = 0; n < taken; n++) {
+        uint8_t *r = m->table + n * COT_RECORD_BYTES;
+        uint64_t heat = 50 + next_random() % 1000;
+        size_t rest = taken - 1 - n;
+        bool on_line = rest > 0 && lined < taken / 4 &&
+                       (rest <= taken / 4 - lined || next_random() % 4 == 0);
+
+        if (on_line)
+            heat += 100000;
+        total += heat;
+        put(r, n);
+        put(r + 8, heat);
+        put(r + 16, 3);
+        put(r + 24, on_line ? 3 + 2 * lined : 1);
+        put(r + 32, on_line ? lined + 1 : 0);
+        lined += on_line;
+    }
+    put(m->gauge, total);
+    put(m->gauge + 8, 40);
+    put(m->gauge + 16, lined);
+}
+
+static bool on_line(const struct memory *m, uint64_t n)
+{
+    const uint8_t *state = m->table + n * COT_RECORD_BYTES + 24;
+
+    return state[0] > 1 || state[1] > 0;
+}
+
+/* The key of call i. */
+static uint64_t key_of(enum key key, const struct memory *m, uint64_t i)
+{
+    uint64_t k = m->table_len / COT_RECORD_BYTES, n = key == HALF_WAY ? k / 2 : 0;
+
+    switch (key) {
+    case NEW_KEYS:
+        return COT_MOST_RECORDS + i;
+    case NOWHERE:
+        return UINT64_MAX;
+    case LAST:
+        return k - 1;
+    case LAST_ON_LINE:
+        n = k - 1;
+        while (!on_line(m, n))
+            n--;
+        return n;
+    default:
+        while (on_line(m, n) != (key == FIRST_ON_LINE))
+            n++;
+        return n;
+    }
+}
+
+static double batch(const struct side *side, const struct test *test, const struct memory *start,
+                    struct memory *m, int calls, const uint64_t *keys, uint64_t *answers)
+{
+    double began;
+
+    *m = *start;
+    began = now();
+    for (int i = 0; i < calls; i++)
+        answers[i] = test->update
+            ? side->update(m->table, m->table_len, m->gauge, COT_GAUGE_BYTES,
+                           m->lines, m->lines_len, keys[i], test->weight)
+            : side->read(m->table, m->table_len, m->gauge, COT_GAUGE_BYTES,
+                         m->lines, m->lines_len, keys[i], test->weight,
+                         m->ticket, COT_TICKET_BYTES);
+    return (now() - began) / calls;
+}
+
+/* False where a byte or an answer differs. */
+static bool run(const struct test *test, size_t k)
+{
+    static struct memory start, m[SIDES];
+    uint64_t keys[MOST_CALLS], answers[SIDES][MOST_CALLS];
+    /* Of the free records of a table half free, no more than half are taken. */
+    int calls = test->half_free && k / 4 < MOST_CALLS ? (int)k / 4 : MOST_CALLS;
+    double best[SIDES];
+
+    fill(&start, k, test->half_free);
+    for (int i = 0; i < calls; i++)
+        keys[i] = key_of(test->key, &start, (uint64_t)i);
+    for (int s = 0; s < SIDES; s++)
+        best[s] = INFINITY;
+    for (int round = 0; round < ROUNDS; round++)
+        for (int s = 0; s < SIDES; s++) {
+            int turn = (s + round) % SIDES;
+            best[turn] = fmin(best[turn], batch(&sides[turn], test, &start, &m[turn], calls, keys, answers[turn]));
+        }
+    printf("%s|%zu", test->name, k);
+    for (int s = 0; s < SIDES; s++) {
+        if (memcmp(&m[s], &m[0], sizeof *m) != 0 || memcmp(answers[s], answers[0], (size_t)calls * sizeof **answers) != 0) {
+            fprintf(stderr, "two sides differ: %s at K = %zu\n", test->name, k);
+            return false;
+        }
+        printf("|%.1f", best[s]);
+    }
+    puts("");
+    return true;
+}
+
+int main(void)
+{
+    static const size_t sizes[] = { 16, 128, 1024 };
+
+    for (size_t i = 0; i < sizeof sizes / sizeof *sizes; i++)
+        for (int t = 0; t < TESTS; t++)
+            if (!run(&tests[t], sizes[i]))
+                return 1;
+    return 0;
+}
