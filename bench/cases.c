@@ -13,6 +13,8 @@
 #include <string.h>
 
 enum { MOST_CALLS = 64, ROUNDS = 400 };
+enum { HEAT = 8, SLACK = 16, STATE = 24, TICKET = 32 }; /* places in a record */
+enum { CEILING = 8, SERIAL = 16 };                      /* places in the gauge */
 
 typedef uint64_t read_call(uint8_t *, size_t, uint8_t *, size_t, const uint8_t *, size_t,
                            uint64_t, uint64_t, uint8_t *, size_t);
@@ -100,20 +102,20 @@ static void fill(struct memory *m, size_t k, bool half_free)
             heat += 100000;
         total += heat;
         put(r, n);
-        put(r + 8, heat);
-        put(r + 16, 3);
-        put(r + 24, on_line ? 3 + 2 * lined : 1);
-        put(r + 32, on_line ? lined + 1 : 0);
+        put(r + HEAT, heat);
+        put(r + SLACK, 3);
+        put(r + STATE, on_line ? 3 + 2 * lined : 1);
+        put(r + TICKET, on_line ? lined + 1 : 0);
         lined += on_line;
     }
     put(m->gauge, total);
-    put(m->gauge + 8, 40);
-    put(m->gauge + 16, lined);
+    put(m->gauge + CEILING, 40);
+    put(m->gauge + SERIAL, lined);
 }
 
 static bool on_line(const struct memory *m, uint64_t n)
 {
-    const uint8_t *state = m->table + n * COT_RECORD_BYTES + 24;
+    const uint8_t *state = m->table + n * COT_RECORD_BYTES + STATE;
 
     return state[0] > 1 || state[1] > 0;
 }

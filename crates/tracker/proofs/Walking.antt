@@ -14,7 +14,7 @@ use Rattle.rules.specs.Walk.{Walk, walk}
 use Rattle.rules.proofs.Searches.{clash, first_at, first_nowhere, first_found}
 use Rattle.rules.proofs.Walks.{walk_holds}
 use Rattle.rules.proofs.Finds.{key_found, free_found, victim_found}
-use Rattle.tracker.specs.Claiming.{largest, heat_of, below}
+use Rattle.tracker.specs.Claiming.{largest, heat_of}
 use Rattle.tracker.specs.Walking.{at, held_records, walked}
 
 -- a record that fails the test changes nothing

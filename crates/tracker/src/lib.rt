@@ -103,7 +103,7 @@ fn first_place(held: usize, i: usize, passes: bool) -> usize
 }
 
 // The order of step 4: whether a record leaves before the victim that is held, if one is.
-#[tactic(auto, unfolding(rules::specs::Table::leaves), using(crate::proofs::Claiming::coldest_first))]
+#[tactic(auto, unfolding(rules::specs::Table::leaves), using(crate::proofs::Claiming::coldest_by_heat))]
 fn leaves(r: Record, held: Held) -> bool
     requires { r.heat < largest }
     ensures { (i : ℕ) (found : Found) → held.heat ≡ heat_of found → best is_unlined leaves found i r ≡ (if is_unlined r && result then Some (i, r) else found) }

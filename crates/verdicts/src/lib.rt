@@ -29,8 +29,9 @@ pub fn sizes_good(table: &[u8], lines: &[u8]) -> bool
 // ---- order
 
 // Whether the table is in order, in one pass. A record without a line is asked first, since most are; of another, one number says whether
-// its line is there; the rest have to be free, and zero. (By the names of the states it takes 8 to 50 in 100 longer. Not inlined: inside an export the compiler takes the loop
-// for one that is seldom run and does not align it, and a call is up to a fifth slower.)
+// its line is there; the rest have to be free, and zero. (By the names of the states it takes 8 to 50 in 100 longer. That a zero record is
+// free goes without saying: the state is asked again for the place in memory that the loops behind this one come to have. Not inlined:
+// inside an export the compiler takes the loop for one that is seldom run and does not align it, and a call is up to a fifth slower.)
 #[tactic(auto, using(rules::proofs::Searches::count_within), unfolding(rules::specs::Table::record_in_order, rules::specs::Table::is_tracked, rules::specs::Table::is_lined, rules::specs::Table::is_unlined, rules::specs::Table::is_zero, rules::specs::Table::in_order, rules::specs::Pass::all_of, rules::specs::Pass::count_of, rules::specs::Pass::sum_of, rules::specs::Pass::pass, rules::specs::Bytes::record_count))]
 #[inline(never)]
 pub fn in_order(table: &[u8], gauge: Gauge, lines: usize) -> bool
