@@ -129,6 +129,18 @@ static int overtaken(uint64_t key, uint64_t pieces)
     return change(key) && fill(key, picture, cot_ticket(ticket));
 }
 
+/* A class is struck from the books, and the cache forgets it. */
+static int withdraw(uint64_t key)
+{
+    printf("class %" PRIu64 " is struck from the books\n", key);
+    uint64_t number = cot_withdraw(table, sizeof table, gauge, sizeof gauge, lines, sizeof lines,
+                                   key);
+    if (!checked(number))
+        return 0;
+    printf("  %s\n", number == COT_WITHDRAWN ? "withdrawn" : "unknown");
+    return 1;
+}
+
 static int age(void)
 {
     printf("the heats age\n");
@@ -180,6 +192,9 @@ int main(void)
                && sort(5, 1)      /* hit, with the new picture */
                && age()           /* every heat is halved; the picture stays */
                && sort(5, 1)      /* hit */
+               && withdraw(5)     /* its line goes to class 7, empty and with a new ticket */
+               && look(7)         /* wanted */
+               && sort(7, 1)      /* wanted: the picture is fetched and filled */
                && report();
     return good ? 0 : 1;
 }

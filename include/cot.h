@@ -19,15 +19,16 @@
  * whole, to each call, and let only the library write to them. The host may read them at any time
  * between calls.
  *
- * Use the line of a hit before the next call: any later read of a weight over 0, update or fill may
- * give the line to another key or put another picture into it.
+ * Use the line of a hit before the next call: any later read of a weight over 0, update, withdrawal
+ * or fill may give the line to another key or put another picture into it.
  *
  * A wanted tells a ticket. Begin the fetch after it, keep the ticket with the fetch, and bring it
- * back to cot_fill with the picture. An update of the key, or the loss of its line, makes the
- * ticket void. So a picture whose fetch an update overtook is refused, with COT_REFUSED_TICKET
- * where the line is still empty: drop it, it may be the old one, and read again, which gives
- * another ticket if the picture is still wanted. Several fetches of a class may be under way; the
- * first good fill is stored. A fill that is refused with COT_REFUSED_NO_LINE, COT_REFUSED_FILLED or
+ * back to cot_fill with the picture. An update or a withdrawal of the key, or the loss of its line,
+ * makes the ticket void. So a picture whose fetch was overtaken is refused, with COT_REFUSED_TICKET
+ * where the line is still empty: drop it. After an update it may be the old one: read again, which
+ * gives another ticket if the picture is still wanted. A key that was withdrawn need not be read
+ * again: a read would track it anew. Several fetches of a class may be under way; the first good
+ * fill is stored. A fill that is refused with COT_REFUSED_NO_LINE, COT_REFUSED_FILLED or
  * COT_REFUSED_TICKET after a late fetch is no fault of the host: drop the picture.
  *
  * A fresh start begins the serials, and so the tickets, again: finish or drop the fetches that are
@@ -63,9 +64,9 @@ extern "C" {
 #define COT_MOST_WEIGHT 65535
 #define COT_MOST_TOTAL 4294967295 /* L: a read that would pass it ages first */
 
-/* With a serial of this or more, reads of a weight over 0, updates and fills are refused, and a
- * fresh start is what is left. No host comes to it: with a line taken a billion times a second it
- * would take 292 years. */
+/* With a serial of this or more, reads of a weight over 0, updates, fills and withdrawals are
+ * refused, and a fresh start is what is left. No host comes to it: with a line taken a billion
+ * times a second it would take 292 years. */
 #define COT_MOST_SERIAL UINT64_C(9223372036854775808)
 
 /* Returned by a refused call: 1 to 99, see cot_is_refused. The tests come in this order: sizes;
@@ -82,18 +83,20 @@ extern "C" {
 #define COT_REFUSED_FORM 7    /* replay: a journal record of unknown form */
 #define COT_REFUSED_SHORT 8   /* replay: 1 to 87 bytes left at the journal's end */
 #define COT_REFUSED_TICKET 9  /* fill: the ticket is not the one that the key has now */
-#define COT_REFUSED_SERIAL 10 /* read of a weight over 0, update or fill: COT_MOST_SERIAL reached */
+#define COT_REFUSED_SERIAL 10 /* read of a weight over 0, update, fill or withdraw: COT_MOST_SERIAL
+                                 reached */
 
 /* Returned by an accepted call. */
-#define COT_DONE 0      /* fresh, levelled sum */
-#define COT_AGED 100    /* age */
-#define COT_CHANGED 101 /* update: the key is tracked; a line it had is empty or another's now */
-#define COT_UNKNOWN 102 /* update: the key is not tracked; nothing has changed */
-#define COT_STORED 103  /* fill: the picture is in the key's line */
-#define COT_PASSED 104  /* read: the key has no line */
-#define COT_HIT 2000    /* read: COT_HIT + n, the key's picture is in line n */
-#define COT_WANTED 4000 /* read: COT_WANTED + n, the key has line n, which is to be filled; tells a
-                           ticket for it */
+#define COT_DONE 0        /* fresh, levelled sum */
+#define COT_AGED 100      /* age */
+#define COT_CHANGED 101   /* update: the key is tracked; a line it had is empty or another's now */
+#define COT_UNKNOWN 102   /* update, withdraw: the key is not tracked; nothing has changed */
+#define COT_STORED 103    /* fill: the picture is in the key's line */
+#define COT_PASSED 104    /* read: the key has no line */
+#define COT_WITHDRAWN 105 /* withdraw: the key is not tracked any more */
+#define COT_HIT 2000      /* read: COT_HIT + n, the key's picture is in line n */
+#define COT_WANTED 4000   /* read: COT_WANTED + n, the key has line n, which is to be filled; tells a
+                             ticket for it */
 
 /* Starts a cache: every byte of the table and of the gauge becomes zero, whatever they held. The
  * lines keep their bytes.
@@ -126,6 +129,16 @@ uint64_t cot_update(uint8_t *table, size_t table_len, uint8_t *gauge, size_t gau
 uint64_t cot_fill(uint8_t *table, size_t table_len, const uint8_t *gauge, size_t gauge_len,
                   uint8_t *lines, size_t lines_len, uint64_t key, const uint8_t *picture,
                   size_t picture_len, uint64_t ticket);
+
+/* Strikes a key from the books: its record becomes free, and the tickets that were given for it are
+ * void. A line it had becomes empty and goes, with a new ticket, to the hottest tracked key without
+ * one, or is unused if there is none; a read or a look of that key then tells wanted. The total and
+ * the ceiling stay. The key may be read again: it is then a new one, which begins at the ceiling. A
+ * refused withdrawal changes nothing: the key and its picture stay. Mend the cause and make it
+ * again; after COT_REFUSED_ORDER or COT_REFUSED_SERIAL start fresh.
+ * Returns COT_WITHDRAWN or COT_UNKNOWN; refused: sizes, order, serial. */
+uint64_t cot_withdraw(uint8_t *table, size_t table_len, uint8_t *gauge, size_t gauge_len,
+                      const uint8_t *lines, size_t lines_len, uint64_t key);
 
 /* Halves every heat, the total and the ceiling, rounded down, and every slack, rounded up. A read
  * does so first where the total would pass COT_MOST_TOTAL.

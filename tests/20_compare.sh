@@ -42,5 +42,7 @@ fault keeps-ticket 'single call.* difference: table byte [0-9]* (record [0-9]*, 
 fault ticket-on-hit 'single call.* difference: ticket byte [0-7] is '
 # A late fill in a list: the library refuses what the model stores.
 fault any-ticket 'list.* difference: returned 9, the model 103'
+# The call below the difference is a withdrawal.
+fault free-takes-line '^  withdrawal of key [0-9]*$'
 echo "20_compare: no difference; the deliberate faults admit-equal, fresh-keeps, sum-heat," \
-    "look-warms, keeps-ticket, ticket-on-hit and any-ticket are found"
+    "look-warms, keeps-ticket, ticket-on-hit, any-ticket and free-takes-line are found"

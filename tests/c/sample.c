@@ -1,5 +1,5 @@
-/* sample.c: document 01's thirteen sample calls, the edges for K = 3, C = 1, document 02's looks
- * and tickets, fresh, levelled sums and the helpers of cot.h.
+/* sample.c: document 01's thirteen sample calls, the edges for K = 3, C = 1, document 02's looks,
+ * tickets and withdrawals, fresh, levelled sums and the helpers of cot.h.
  *
  * Prints each returned number, with the line of a hit or a wanted and the ticket of a wanted, and
  * the gauge after the call. A refused call must leave all lent memory as it was, and a read that
@@ -185,6 +185,18 @@ static void call_fill(const char *name, uint64_t key, uint64_t brought)
     show(name, cot_fill(LENT, key, lent(picture, picture_len), picture_len, brought), "");
 }
 
+static void call_withdraw(const char *name, uint64_t key)
+{
+    const char *more = "";
+    keep();
+    uint64_t number = cot_withdraw(LENT, key);
+    if (number == COT_UNKNOWN)
+        more = three_kept() && sum_kept() ? ", nothing changed" : ", MEMORY CHANGED";
+    if (number == COT_WITHDRAWN && (memcmp(before[2], lines, MOST) != 0 || !sum_kept()))
+        more = ", LINES OR SUM CHANGED";
+    show(name, number, more);
+}
+
 static void call_age(const char *name)
 {
     keep();
@@ -255,13 +267,14 @@ static const char *of(const char *name, const char *call)
     return text;
 }
 
-/* The six calls, one after another. From fresh, the read takes a line with ticket 1 and the update
- * gives it ticket 2. */
-static void all_six(const char *name)
+/* The seven calls, one after another. From fresh, the read takes a line with ticket 1 and the
+ * update gives it ticket 2. */
+static void all_seven(const char *name)
 {
     call_read(of(name, "read"), 5, 1);
     call_update(of(name, "update"), 5, 1);
     call_fill(of(name, "fill"), 5, 2);
+    call_withdraw(of(name, "withdraw"), 5);
     call_age(of(name, "age"));
     call_sum(of(name, "levelled sum"));
     call_fresh(of(name, "fresh"));
@@ -271,52 +284,52 @@ static void sizes(void)
 {
     fresh();
     table_len = 0;
-    all_six("table of 0 bytes");
+    all_seven("table of 0 bytes");
     fresh();
     table_len = 119;
-    all_six("table of 119 bytes");
+    all_seven("table of 119 bytes");
     fresh();
     table_len = 121;
-    all_six("table of 121 bytes");
+    all_seven("table of 121 bytes");
     fresh();
     table_len = 96;
-    all_six("table of 96 bytes");
+    all_seven("table of 96 bytes");
     fresh();
     table_len = 40960;
-    all_six("table of 40960 bytes");
+    all_seven("table of 40960 bytes");
     fresh();
     table_len = 41000;
-    all_six("table of 41000 bytes");
+    all_seven("table of 41000 bytes");
     fresh();
     table_len = 40;
-    all_six("K = 1 with one line");
+    all_seven("K = 1 with one line");
     fresh();
     lines_len = 63;
-    all_six("lines of 63 bytes");
+    all_seven("lines of 63 bytes");
     fresh();
     lines_len = 65;
-    all_six("lines of 65 bytes");
+    all_seven("lines of 65 bytes");
     fresh();
     lines_len = 192;
-    all_six("three lines");
+    all_seven("three lines");
     fresh();
     gauge_len = 0;
-    all_six("gauge of 0 bytes");
+    all_seven("gauge of 0 bytes");
     fresh();
     gauge_len = 16;
-    all_six("gauge of 16 bytes");
+    all_seven("gauge of 16 bytes");
     fresh();
     gauge_len = 23;
-    all_six("gauge of 23 bytes");
+    all_seven("gauge of 23 bytes");
     fresh();
     gauge_len = 25;
-    all_six("gauge of 25 bytes");
+    all_seven("gauge of 25 bytes");
     fresh();
     lines_len = 0;
-    all_six("no lines");
+    all_seven("no lines");
     fresh();
     lines_len = 128;
-    all_six("two lines");
+    all_seven("two lines");
 }
 
 static void fresh_on_any_bytes(void)
@@ -515,6 +528,70 @@ static void tickets(void)
     call_fill("its fill", 5, UINT64_MAX);
 }
 
+static void withdrawals(void)
+{
+    /* The line goes to the hottest without one. */
+    fresh();
+    call_read("a line taken", 5, 9);
+    call_fill("its fill", 5, 1);
+    call_read("7 without a line", 7, 2);
+    call_read("9 without a line", 9, 4);
+    call_withdraw("withdraw 5, its line goes to 9", 5);
+    show_records();
+    call_look("look at 5", 5);
+    call_fill("fill of 5", 5, 1);
+    call_withdraw("withdraw 5 again", 5);
+    call_fill("fill of 9 with the ticket of 5", 9, 1);
+    call_look("look at 9", 9);
+    call_fill("fill of 9 with its own", 9, 2);
+
+    /* Nobody is left to take the line. */
+    call_withdraw("withdraw 7, without a line", 7);
+    show_records();
+    call_withdraw("withdraw 9, the last one", 9);
+    show_records();
+    call_read("11 takes the unused line", 11, 1);
+
+    /* "a withdrawal leaves the ceiling", and a class that comes back begins there. */
+    fresh();
+    call_read("5 takes the line", 5, 3);
+    call_read("7 tracked", 7, 2);
+    call_read("9 tracked", 9, 2);
+    call_read("11 evicts 7", 11, 1);
+    call_withdraw("withdraw 9, ceiling 2", 9);
+    call_read("9 comes back", 9, 1);
+    show_records();
+    call_withdraw("withdraw 5, its line goes to the first among equals", 5);
+    show_records();
+    call_sum("levelled sum with a free record");
+
+    /* A free record is not the hottest without a line, even where that has heat 0. */
+    fresh();
+    put_gauge(4, 0);
+    put_record(0, 5, 4, 0, 3);
+    put_record(2, 7, 0, 0, 1);
+    call_withdraw("withdraw 5, its line goes to a heat of 0", 5);
+    show_records();
+
+    /* Line 1 of two. */
+    fresh();
+    lines_len = 128;
+    call_read("5 takes line 0", 5, 9);
+    call_read("7 takes line 1", 7, 5);
+    call_read("9 tracked", 9, 1);
+    call_withdraw("withdraw 7, line 1 goes to 9", 7);
+    call_look("look at 9", 9);
+    call_withdraw("withdraw 9", 9);
+    call_read("11 takes line 1", 11, 1);
+
+    /* Key 0 and a free record. */
+    fresh();
+    call_withdraw("withdraw of key 0 on a fresh table", 0);
+    call_read("read of key 0", 0, 1);
+    call_withdraw("withdraw of key 0", 0);
+    call_withdraw("withdraw of key 0 again", 0);
+}
+
 static void serials(void)
 {
     /* The last ticket that is given. */
@@ -523,10 +600,10 @@ static void serials(void)
     call_read("serial 2^63 - 1, a line taken", 5, 1);
     call_look("serial 2^63, look", 5);
     call_look("serial 2^63, look at an untracked key", 7);
-    all_six("serial 2^63");
+    all_seven("serial 2^63");
     fresh();
     put_serial(UINT64_MAX);
-    all_six("serial 2^64 - 1");
+    all_seven("serial 2^64 - 1");
 }
 
 static void limits(void)
@@ -543,7 +620,7 @@ static void limits(void)
     put_record(0, 5, 4, 0, 3);
     call_read("state 3", 5, 1);
     put_record(0, 5, 4, 0, 4);
-    all_six("state 4");
+    all_seven("state 4");
 
     /* Key 0 is a class like any other, and a free record is not its record. */
     fresh();
@@ -556,30 +633,30 @@ static void not_in_order(void)
 {
     fresh();
     put_gauge(4294967296u, 0);
-    all_six("total 4294967296");
+    all_seven("total 4294967296");
     fresh();
     put_gauge(4, 5);
-    all_six("ceiling over total");
+    all_seven("ceiling over total");
     fresh();
     put_gauge(4, 0);
     put_record(2, 5, 5, 0, 1);
-    all_six("heat over total");
+    all_seven("heat over total");
     fresh();
     put_record(1, 0, 0, 1, 0);
-    all_six("free record with a slack");
+    all_seven("free record with a slack");
     fresh();
     put_ticket(1, 1);
-    all_six("free record with a ticket");
+    all_seven("free record with a ticket");
     fresh();
     put_gauge(4, 0);
     put_record(1, 5, 4, 0, 1);
     put_ticket(1, 1);
-    all_six("ticket without a line");
+    all_seven("ticket without a line");
     fresh();
     put_gauge(4, 0);
     put_record(0, 5, 1, 0, 2);
     put_record(1, 7, 1, 0, 3);
-    all_six("two records on one line");
+    all_seven("two records on one line");
 }
 
 static void order_of_tests(void)
@@ -590,6 +667,7 @@ static void order_of_tests(void)
     call_read("sizes before weight", 5, 65536);
     picture_len = 63;
     call_fill("sizes before picture", 5, 1);
+    call_withdraw("sizes before order, withdraw", 5);
     gauge_len = 24;
     ticket_len = 7;
     call_read("ticket bytes before weight", 5, 65536);
@@ -606,6 +684,7 @@ static void order_of_tests(void)
     call_read("order before serial, read", 5, 1);
     call_update("order before serial, update", 5, 1);
     call_fill("order before serial, fill", 5, 1);
+    call_withdraw("order before serial, withdraw", 5);
     put_serial(0);
     call_fill("order before no line", 5, 1);
     put_record(0, 5, 1, 0, 3);
@@ -624,6 +703,7 @@ static void order_of_tests(void)
     call_fill("picture before serial", 5, 1);
     picture_len = 64;
     call_update("serial before unknown", 7, 1);
+    call_withdraw("serial before unknown, withdraw", 7);
     call_fill("serial before no line", 7, 1);
     call_fill("serial before ticket", 5, 1);
     put_record(0, 5, 1, 0, 3);
@@ -636,7 +716,7 @@ static void order_of_tests(void)
 /* What the helpers of cot.h say of a number. */
 static void helpers(void)
 {
-    static const uint64_t numbers[] = {0,    1,    6,    10,   99,   100,  104,  1999,
+    static const uint64_t numbers[] = {0,    1,    6,    10,   99,   100,  105,  1999,
                                        2000, 3022, 3999, 4000, 4001, 5022, 6000, UINT64_MAX};
     for (size_t i = 0; i < sizeof numbers / sizeof numbers[0]; i++) {
         uint64_t number = numbers[i];
@@ -664,6 +744,7 @@ int main(void)
     weights_and_pictures();
     looks();
     tickets();
+    withdrawals();
     serials();
     limits();
     not_in_order();

@@ -1,5 +1,5 @@
-//! Group (a): single calls on damaged memory. Each memory is lent to a read, look, update, fill or
-//! aging, to a fresh and to a levelled sum.
+//! Group (a): single calls on damaged memory. Each memory is lent to a read, look, update, fill,
+//! withdrawal or aging, to a fresh and to a levelled sum.
 
 use crate::harness::{Both, Memory};
 use crate::lists::{STEPS, STEPS_AT_THE_LIMIT};
@@ -9,14 +9,14 @@ use crate::model::{
     wrong_ticket_bytes, wrong_update_weight, Call, Model, Path, Record,
 };
 use crate::model::{
-    GAUGE_BYTES, L, LINE_BYTES, MOST_WEIGHT, RECORD_BYTES, SERIAL_LIMIT, SUM_BYTES, TICKET_BYTES,
-    TRACKED,
+    FREE, GAUGE_BYTES, L, LINE_BYTES, MOST_WEIGHT, RECORD_BYTES, SERIAL_LIMIT, SUM_BYTES,
+    TICKET_BYTES, TRACKED,
 };
 use crate::random::Random;
 use crate::Counts;
 
 /// Every answer and refusal of each call; a look is a read of weight 0. Each must come.
-pub const ANSWERS: [&str; 34] = [
+pub const ANSWERS: [&str; 39] = [
     "read 1",
     "read 2",
     "read 3",
@@ -43,6 +43,11 @@ pub const ANSWERS: [&str; 34] = [
     "fill 6",
     "fill 9",
     "fill stored",
+    "withdraw 1",
+    "withdraw 3",
+    "withdraw 10",
+    "withdraw withdrawn",
+    "withdraw unknown",
     "age 1",
     "age 3",
     "age aged",
@@ -75,9 +80,9 @@ const ORDER: [&str; 7] = [
 
 /// A read's own part of cause 1 (alone), the parts of cause 5 (alone), for each call every pair of
 /// causes that can hold at once, in the order of tests, the agings of a read, doubled classes and
-/// what a look meets in no list. With the parts of 1 and of 3 (alone) and the steps of the lists,
-/// each must come.
-const CAUSES: [&str; 44] = [
+/// what a look or a withdrawal meets in no list. With the parts of 1 and of 3 (alone) and the steps
+/// of the lists, each must come.
+const CAUSES: [&str; 49] = [
     "1: ticket bytes not 8",
     "5: no record",
     "5: no line",
@@ -114,6 +119,9 @@ const CAUSES: [&str; 44] = [
     "fill 10 and 9",
     "fill 5 and 9",
     "fill 6 and 9",
+    "withdraw 1 and 3",
+    "withdraw 1 and 10",
+    "withdraw 3 and 10",
     "age 1 and 3",
     "read 1: not aged",
     "read 1: aged first",
@@ -122,6 +130,8 @@ const CAUSES: [&str; 44] = [
     "look: tracked without a line, an unused line",
     "look: tracked without a line, hotter than one on a line",
     "look: doubled key, a later record answers otherwise",
+    "withdraw: doubled key, a later record stays",
+    "withdraw: doubled line, given all the same",
 ];
 
 /// What fresh and a levelled sum must meet, besides each part of 1 and, for the sum, of 3 (alone).
@@ -147,8 +157,14 @@ const FRESH_AND_SUM: [&str; 17] = [
 
 /// Special inputs: good ones in an accepted call, bad ones in a call refused for that cause. Each
 /// must come.
-const INPUTS: [&str; 47] = [
+const INPUTS: [&str; 53] = [
     "read, its record after a free one",
+    "withdraw, its record after a free one",
+    "withdraw of key 0, its record after a free one",
+    "withdraw of key 0, untracked, with a free record",
+    "withdraw of key 2^64 - 1",
+    "withdraw, K = 1",
+    "withdraw 10, untracked",
     "K = 1",
     "K = 1,023",
     "K = 1,024",
@@ -199,7 +215,7 @@ const INPUTS: [&str; 47] = [
 
 /// What each call must meet about its serial: the last ones that are good, "or more" than the limit,
 /// and what no refusal 10 is for.
-const SERIALS: [&str; 20] = [
+const SERIALS: [&str; 27] = [
     "read wanted: serial 2^63 - 2 grows",
     "read wanted: serial 2^63 - 1 grows",
     "read hit: serial 2^63 - 1",
@@ -216,6 +232,13 @@ const SERIALS: [&str; 20] = [
     "fill 10: serial 2^63",
     "fill 10: serial 2^63 + 1",
     "fill 10: serial 2^64 - 1",
+    "withdraw withdrawn: serial 2^63 - 2 grows",
+    "withdraw withdrawn: serial 2^63 - 1 grows",
+    "withdraw withdrawn: serial 2^63 - 1",
+    "withdraw unknown: serial 2^63 - 1",
+    "withdraw 10: serial 2^63",
+    "withdraw 10: serial 2^63 + 1",
+    "withdraw 10: serial 2^64 - 1",
     "look wanted: serial 2^63",
     "look wanted: serial 2^64 - 1",
     "age aged: serial 2^63",
@@ -229,6 +252,7 @@ fn kind_name(call: &Call) -> &'static str {
         Call::Read { .. } => "read",
         Call::Update { .. } => "update",
         Call::Fill { .. } => "fill",
+        Call::Withdraw { .. } => "withdraw",
         Call::Age => "age",
         Call::Fresh => "fresh",
         Call::LevelledSum => "sum",
@@ -252,6 +276,7 @@ pub fn answer_name(call: &Call, number: u64) -> &'static str {
         102 => "unknown",
         103 => "stored",
         104 => "passed",
+        105 => "withdrawn",
         2_000..=3_022 => "hit",
         4_000..=5_022 => "wanted",
         _ => "another number",
@@ -304,6 +329,8 @@ pub fn every_length(seed: u64, model: &Model) -> Result<u64, String> {
                 picture,
                 ticket: 1,
             },
+            // Tracked where K is over 2.
+            Call::Withdraw { key: 2 },
             Call::Age,
             Call::Fresh,
             Call::LevelledSum,
@@ -369,8 +396,12 @@ pub fn run(seed: u64, calls: u64, model: &Model, counts: &mut Counts) -> Result<
                 Call::Fresh => count_fresh(&case, found, &path, counts),
                 Call::LevelledSum => count_sum(&case, found, &path, counts),
                 _ => {
+                    // A withdrawal must meet each part of 1 and 3 itself.
+                    let withdrawal = matches!(call, Call::Withdraw { .. });
                     for step in path {
                         counts.add(step);
+                        let own = withdrawal && is_refused(found);
+                        counts.add_if(&format!("withdraw {step}"), own);
                     }
                     count_pairs(&case, found, counts);
                     count_inputs(&case, found, counts);
@@ -379,7 +410,10 @@ pub fn run(seed: u64, calls: u64, model: &Model, counts: &mut Counts) -> Result<
         }
     }
     let mut names: Vec<String> = SIZES.map(|part| format!("fresh {part}")).into();
-    names.extend(SIZES.iter().chain(&ORDER).map(|part| format!("sum {part}")));
+    for kind in ["sum", "withdraw"] {
+        let parts = SIZES.iter().chain(&ORDER);
+        names.extend(parts.map(|part| format!("{kind} {part}")));
+    }
     let alone = SIZES.iter().chain(&ORDER).chain(&CAUSES);
     let steps = STEPS.iter().chain(&STEPS_AT_THE_LIMIT);
     let rest = ANSWERS.iter().chain(&FRESH_AND_SUM).chain(&INPUTS);
@@ -591,6 +625,28 @@ fn count_inputs(case: &Case, found: u64, counts: &mut Counts) {
                     found == 5 && *ticket == own,
                 );
             }
+        }
+        Call::Withdraw { key } => {
+            let records = records_of(&case.table);
+            let own = records.iter().position(|r| r.key == *key && !r.is_free());
+            let free = records.iter().position(Record::is_free);
+            let after_free = matches!((own, free), (Some(own), Some(free)) if free < own);
+            let zero = *key == 0;
+            count(
+                "withdraw, its record after a free one",
+                accepted && after_free,
+            );
+            count(
+                "withdraw of key 0, its record after a free one",
+                accepted && zero && after_free,
+            );
+            count(
+                "withdraw of key 0, untracked, with a free record",
+                found == 102 && zero && free.is_some(),
+            );
+            count("withdraw of key 2^64 - 1", found == 105 && *key == u64::MAX);
+            count("withdraw, K = 1", found == 105 && records.len() == 1);
+            count("withdraw 10, untracked", found == 10 && own.is_none());
         }
         Call::Age | Call::Fresh | Call::LevelledSum => {}
     }
@@ -822,13 +878,7 @@ fn good_records(
     let mut records = Vec::with_capacity(k);
     for number in 0..k {
         if number < free {
-            records.push(Record {
-                key: 0,
-                heat: 0,
-                slack: 0,
-                state: 0,
-                ticket: 0,
-            });
+            records.push(FREE);
             continue;
         }
         let state = if number - free < on_lines {
@@ -904,7 +954,7 @@ fn some_call(
         _ => random.pick(records).key,
     };
     let own = records.iter().find(|r| r.key == key && !r.is_free());
-    match random.below(20) {
+    match random.below(24) {
         0..=8 => {
             // The heat to reach, and the heat that the weight is added to.
             let aim = heats_on_lines(records).min();
@@ -929,16 +979,7 @@ fn some_call(
             Call::Update { key, weight }
         }
         14..=18 => {
-            let on_line: Vec<u64> = records
-                .iter()
-                .filter(|r| r.line().is_some())
-                .map(|r| r.key)
-                .collect();
-            let key = if !on_line.is_empty() && random.chance(60) {
-                random.pick(&on_line)
-            } else {
-                key
-            };
+            let key = often_on_line(records, key, random);
             let len = match random.below(20) {
                 0 => random.pick(&[0, 63, 65]),
                 1 => random.pick(&[1, 32, 127, 128]),
@@ -961,7 +1002,21 @@ fn some_call(
                 },
             }
         }
+        19..=22 => Call::Withdraw {
+            key: often_on_line(records, key, random),
+        },
         _ => Call::Age,
+    }
+}
+
+/// The key, or one that is on a line.
+fn often_on_line(records: &[Record], key: u64, random: &mut Random) -> u64 {
+    let on_lines = records.iter().filter(|r| r.line().is_some());
+    let on_lines: Vec<u64> = on_lines.map(|r| r.key).collect();
+    if !on_lines.is_empty() && random.chance(60) {
+        random.pick(&on_lines)
+    } else {
+        key
     }
 }
 

@@ -1,12 +1,12 @@
 //! Group (d): the examples of document 01 that concern the exported calls, with the sizes and tickets
-//! of document 02, levelled sums worked out by hand, and document 02's Asks 1 and 2 on tables worked
-//! out by hand. Each test has the document's sentence. The examples with journals concern the program
-//! `replay` only.
+//! of document 02, levelled sums worked out by hand, and document 02's Asks 1, 2 and 4 on tables
+//! worked out by hand. Each test has the document's sentence. The examples with journals concern the
+//! program `replay` only.
 
 use crate::harness::{call_text, Both, Memory};
 use crate::model::{
     gauge_of, is_refused, number_at, put_gauge, put_records, records_of, Call, Model, Path, Record,
-    Replay,
+    Replay, FREE,
 };
 use crate::random::Random;
 
@@ -32,7 +32,17 @@ const LATE: &str = "After a list as in demand 3, a filled line shows a picture w
 const LIMIT: &str = "10, a read over 0, update or fill when the serial is \
                      9,223,372,036,854,775,808 or more, tested after 3";
 
-pub const EXAMPLES: [Example; 29] = [
+/// Document 02's sentences on what a withdrawal does, what it answers, and what it leaves.
+const WITHDRAW: &str =
+    "Withdraw, a new call, frees its key's record. A line it had goes, empty and \
+                        with a new ticket, to the hottest tracked record left without one, first \
+                        among equals, or becomes unused.";
+const WITHDRAWN: &str = "Its answer is withdrawn (105 when exported), or unknown for an untracked \
+                         key, and refusals 1, 3 and 10 apply.";
+const STRUCK: &str = "In the replay the class's true heat becomes 0. Lists with withdrawals must \
+                      satisfy every part of demand 3; a withdrawal leaves the ceiling.";
+
+pub const EXAMPLES: [Example; 40] = [
     (
         "thirteen rows",
         "Journal: read 5 w 3; fill 5; ... read 9 w 1. Output, whole: 1 wanted 3 0 ... 13 wanted 8 1",
@@ -139,6 +149,17 @@ pub const EXAMPLES: [Example; 29] = [
     ),
     ("ticket: last serial", LIMIT, last_serial),
     ("ticket: order of tests", LIMIT, serial_among_the_tests),
+    ("withdraw: line goes", WITHDRAW, line_handed_on),
+    ("withdraw: among equals", WITHDRAW, handed_on_among_equals),
+    ("withdraw: unused", WITHDRAW, line_becomes_unused),
+    ("withdraw: free records", WITHDRAW, free_records_get_no_line),
+    ("withdraw: without a line", WITHDRAW, withdrawn_without_a_line),
+    ("withdraw: doubled", WITHDRAW, withdrawn_of_doubled),
+    ("withdraw: unknown", WITHDRAWN, withdrawal_of_an_untracked_key),
+    ("withdraw: order of tests", WITHDRAWN, withdrawal_among_the_tests),
+    ("withdraw: old ticket", WITHDRAW, late_fetch_of_a_withdrawn_class),
+    ("withdraw: read again", STRUCK, withdrawn_and_read_again),
+    ("withdraw: true heat", STRUCK, true_heat_of_a_withdrawn_class),
 ];
 
 /// The memory and, for a list from fresh, the replay.
@@ -207,12 +228,26 @@ impl<'a> Desk<'a> {
             read(5, 0),
             fill(5, 1),
             update(5, 1),
+            withdraw(5),
             Call::Age,
             sum,
         ] {
             self.gives(1, call)?;
         }
         Ok(())
+    }
+
+    /// Lent with these lengths of table, gauge, lines and ticket, the call must give 1.
+    fn wrong_lengths(&mut self, lengths: [usize; 4], call: &Call) -> Result<(), String> {
+        let whole = self.both.set_lengths(lengths);
+        let found = self.both.call(call, &mut self.random, &mut Path::new());
+        self.both.set_lengths(whole);
+        match found? {
+            1 => Ok(()),
+            other => Err(format!(
+                "lengths {lengths:?} returned {other}, and 1 is due"
+            )),
+        }
     }
 
     /// The levelled sum must be as given.
@@ -302,6 +337,10 @@ fn update(key: u64, weight: u64) -> Call {
     Call::Update { key, weight }
 }
 
+fn withdraw(key: u64) -> Call {
+    Call::Withdraw { key }
+}
+
 /// A picture of the key, and of the ticket that it was fetched for.
 fn fill(key: u64, ticket: u64) -> Call {
     let picture = (0..64).map(|byte| byte + key as u8 + ticket as u8 % 16);
@@ -326,15 +365,6 @@ fn record(key: u64, heat: u64, slack: u64, state: u64, ticket: u64) -> Record {
         ticket,
     }
 }
-
-/// A free record: "all zero".
-const FREE: Record = Record {
-    key: 0,
-    heat: 0,
-    slack: 0,
-    state: 0,
-    ticket: 0,
-};
 
 /// The document's journal, with the number of each answer, the total, the ceiling and the serial.
 fn rows() -> [(Call, u64, (u64, u64, u64)); 13] {
@@ -424,6 +454,7 @@ fn most_state(model: &Model, seed: u64) -> Result<(), String> {
         (read(5, 0), 2_000, 3),
         (update(5, 1), 101, 3),
         (fill(5, 1), 6, 3),
+        (withdraw(5), 105, 3),
         (Call::Age, 100, 3),
         (Call::LevelledSum, 0, 3),
         // "Fresh gives only 1."
@@ -782,6 +813,8 @@ fn no_ticket_given(model: &Model, seed: u64) -> Result<(), String> {
         (update(9, 1), 101),
         (update(13, 1), 102),
         (fill(7, 6), 103),
+        (withdraw(9), 105),
+        (withdraw(13), 102),
         (Call::Age, 100),
         (Call::LevelledSum, 0),
     ];
@@ -925,6 +958,7 @@ fn ticket_without_a_line(model: &Model, seed: u64) -> Result<(), String> {
         (read(5, 0), 4_000),
         (update(5, 1), 101),
         (fill(5, 2), 103),
+        (withdraw(5), 105),
         (Call::Age, 100),
         (Call::LevelledSum, 0),
     ];
@@ -958,20 +992,24 @@ fn last_serial(model: &Model, seed: u64) -> Result<(), String> {
     desk.gauge(22, 0, limit - 1)?;
 
     // The last ticket is the limit itself: class 7 takes the line, class 5 keeps it, or class 7 takes
-    // it in an update of class 5. The total then, and the sum after an aging.
+    // it in an update or gets it in a withdrawal of class 5. The total then, and the sum after an
+    // aging.
     for (call, number, key, total, sum) in [
         (read(7, 2), 4_000, 7, 22, 9),
         (update(5, 1), 101, 5, 20, 8),
         (update(5, 2), 101, 7, 20, 7),
+        (withdraw(5), 105, 7, 20, 4),
     ] {
         let mut desk = Desk::with(model, seed, (20, 0, limit - 1), &records, 1);
         desk.gives(number, call)?;
         desk.gauge(total, 0, limit)?;
-        // From now on nothing is read, updated or filled, also where no ticket would be given.
+        // From now on nothing is read, updated, filled or withdrawn, also where no ticket would be
+        // given.
         for key in [5, 7, 9] {
             desk.gives(10, read(key, 1))?;
             desk.gives(10, update(key, 1))?;
             desk.gives(10, fill(key, limit))?;
+            desk.gives(10, withdraw(key))?;
         }
         // Looks, agings and levelled sums go on.
         desk.wanted(limit, read(key, 0))?;
@@ -1033,4 +1071,324 @@ fn serial_among_the_tests(model: &Model, seed: u64) -> Result<(), String> {
         Desk::with(model, seed, gauge, &empty, 3).wrong_sizes()?;
     }
     Ok(())
+}
+
+fn line_handed_on(model: &Model, seed: u64) -> Result<(), String> {
+    let mut desk = Desk::fresh(model, seed, 4, 1)?;
+    desk.wanted(1, read(5, 5))?;
+    desk.gives(103, fill(5, 1))?;
+    desk.gives(104, read(7, 2))?;
+    desk.gives(104, read(9, 4))?;
+    desk.gives(104, read(11, 3))?;
+    // Class 9 is the hottest without a line, and gets it empty.
+    desk.gives(105, withdraw(5))?;
+    for (place, due) in [
+        (0, FREE),
+        (1, plain(7, 2, 0)),
+        (2, record(9, 4, 0, 2, 2)),
+        (3, plain(11, 3, 0)),
+    ] {
+        desk.record(place, due)?;
+    }
+    desk.gauge(14, 0, 2)?;
+    desk.look(104, 5)?;
+    desk.wanted(2, read(9, 0))?;
+    desk.gives(103, fill(9, 2))?;
+    desk.look(2_000, 9)?;
+    // Again, with class 9's line empty: an update leaves it there.
+    desk.gives(101, update(9, 1))?;
+    desk.record(2, record(9, 3, 0, 2, 3))?;
+    desk.gives(105, withdraw(9))?;
+    desk.record(2, FREE)?;
+    desk.record(3, record(11, 3, 0, 2, 4))?;
+    desk.gauge(14, 0, 4)?;
+
+    // It is the line of the class that is withdrawn, and no other class loses its own, though class
+    // 9 is hotter than class 7.
+    let records = [
+        record(5, 9, 3, 7, 8),
+        record(7, 2, 1, 3, 6),
+        plain(9, 4, 2),
+        record(11, 8, 0, 4, 7),
+    ];
+    for (key, place, state, line) in [(5, 0, 6, 2), (7, 1, 2, 0), (11, 3, 4, 1)] {
+        let mut desk = Desk::with(model, seed, (23, 2, 40), &records, 3);
+        desk.gives(105, withdraw(key))?;
+        for (other, before) in records.into_iter().enumerate() {
+            let due = match other {
+                2 => record(9, 4, 2, state, 41),
+                _ if other == place => FREE,
+                _ => before,
+            };
+            desk.record(other, due)?;
+        }
+        desk.gauge(23, 2, 41)?;
+        desk.gives(4_000 + line, read(9, 0))?;
+        desk.told(41)?;
+    }
+    Ok(())
+}
+
+fn handed_on_among_equals(model: &Model, seed: u64) -> Result<(), String> {
+    let own = record(5, 9, 0, 3, 7);
+    let (seven, nine, eleven) = (plain(7, 4, 3), plain(9, 4, 1), plain(11, 3, 0));
+    // Three records, and the place of the one that gets the line: slack, key and the place of the
+    // record that goes do not count.
+    for (records, taker) in [
+        ([own, seven, nine], 1),
+        ([own, nine, seven], 1),
+        ([seven, own, nine], 0),
+        ([nine, own, seven], 0),
+        ([seven, nine, own], 0),
+        ([own, eleven, nine], 2),
+        ([eleven, own, nine], 2),
+        ([eleven, nine, own], 1),
+        ([nine, eleven, own], 0),
+    ] {
+        let mut desk = Desk::with(model, seed, (17, 0, 40), &records, 1);
+        desk.gives(105, withdraw(5))?;
+        for (place, before) in records.into_iter().enumerate() {
+            let due = match before {
+                Record { key: 5, .. } => FREE,
+                Record {
+                    key, heat, slack, ..
+                } if place == taker => record(key, heat, slack, 2, 41),
+                _ => before,
+            };
+            desk.record(place, due)?;
+        }
+        desk.gauge(17, 0, 41)?;
+    }
+    Ok(())
+}
+
+fn line_becomes_unused(model: &Model, seed: u64) -> Result<(), String> {
+    // Filled or empty: no other is without a line, so no ticket is given.
+    for state in [4, 5] {
+        let records = [record(5, 9, 3, state, 7), FREE, record(7, 8, 0, 2, 6)];
+        let mut desk = Desk::with(model, seed, (20, 2, 40), &records, 2);
+        desk.gives(105, withdraw(5))?;
+        desk.record(0, FREE)?;
+        desk.record(1, FREE)?;
+        desk.record(2, record(7, 8, 0, 2, 6))?;
+        desk.gauge(20, 2, 40)?;
+        // The next class takes line 1.
+        desk.gives(4_001, read(9, 1))?;
+        desk.told(41)?;
+        desk.record(0, record(9, 3, 2, 4, 41))?;
+    }
+    // The last class of all.
+    let mut desk = Desk::fresh(model, seed, 3, 2)?;
+    desk.wanted(1, read(5, 3))?;
+    desk.gives(105, withdraw(5))?;
+    for place in 0..3 {
+        desk.record(place, FREE)?;
+    }
+    desk.gauge(3, 0, 1)
+}
+
+fn free_records_get_no_line(model: &Model, seed: u64) -> Result<(), String> {
+    // A class of heat 0 gets the line, and no free record before it, nor the one just freed.
+    let own = record(5, 9, 0, 3, 7);
+    let cold = plain(9, 0, 0);
+    let warm = record(9, 0, 0, 2, 41);
+    for (records, due) in [
+        ([FREE, own, cold], [FREE, FREE, warm]),
+        ([own, FREE, cold], [FREE, FREE, warm]),
+        ([own, cold, FREE], [FREE, warm, FREE]),
+        ([FREE, cold, own], [FREE, warm, FREE]),
+        ([cold, FREE, own], [warm, FREE, FREE]),
+        ([FREE, FREE, own], [FREE; 3]),
+        ([own, FREE, FREE], [FREE; 3]),
+    ] {
+        let mut desk = Desk::with(model, seed, (9, 0, 40), &records, 1);
+        desk.gives(105, withdraw(5))?;
+        for (place, due) in due.into_iter().enumerate() {
+            desk.record(place, due)?;
+        }
+        desk.gauge(9, 0, if due == [FREE; 3] { 40 } else { 41 })?;
+    }
+    Ok(())
+}
+
+fn withdrawn_without_a_line(model: &Model, seed: u64) -> Result<(), String> {
+    // Class 9 is hotter than class 5 on its line, and line 1 is used or not: no line moves.
+    for c in [1, 2] {
+        let records = [record(5, 2, 0, 3, 7), plain(7, 4, 3), plain(9, 8, 0)];
+        let mut desk = Desk::with(model, seed, (14, 1, 40), &records, c);
+        desk.gives(105, withdraw(7))?;
+        desk.record(0, records[0])?;
+        desk.record(1, FREE)?;
+        desk.record(2, records[2])?;
+        desk.gauge(14, 1, 40)?;
+        desk.look(104, 7)?;
+        desk.gives(102, withdraw(7))?;
+    }
+    let mut desk = Desk::fresh(model, seed, 1, 0)?;
+    desk.gives(104, read(5, 3))?;
+    desk.gives(105, withdraw(5))?;
+    desk.record(0, FREE)?;
+    desk.gauge(3, 0, 0)
+}
+
+fn withdrawn_of_doubled(model: &Model, seed: u64) -> Result<(), String> {
+    // "the rules then use the first record"; the second of key 5 may get the line.
+    let records = [plain(7, 3, 0), record(5, 9, 0, 3, 7), plain(5, 4, 2)];
+    let mut desk = Desk::with(model, seed, (16, 1, 40), &records, 1);
+    desk.gives(105, withdraw(5))?;
+    desk.record(1, FREE)?;
+    desk.record(2, record(5, 4, 2, 2, 41))?;
+    desk.wanted(41, read(5, 0))?;
+    desk.gives(105, withdraw(5))?;
+    desk.record(0, record(7, 3, 0, 2, 42))?;
+    desk.record(2, FREE)?;
+    desk.gives(102, withdraw(5))?;
+
+    // Class 5's line is class 9's too, and class 7 gets it all the same.
+    let records = [
+        plain(7, 3, 0),
+        record(5, 9, 0, 3, 7),
+        record(9, 8, 0, 3, 6),
+        FREE,
+    ];
+    let mut desk = Desk::with(model, seed, (20, 1, 40), &records, 2);
+    desk.gives(105, withdraw(5))?;
+    desk.record(0, record(7, 3, 0, 2, 41))?;
+    desk.record(1, FREE)?;
+    desk.record(2, records[2])?;
+    desk.gauge(20, 1, 41)
+}
+
+fn withdrawal_of_an_untracked_key(model: &Model, seed: u64) -> Result<(), String> {
+    let records = [FREE, record(5, 9, 3, 3, 7), plain(7, 4, 1)];
+    let mut desk = Desk::with(model, seed, (20, 2, 40), &records, 1);
+    // A free record has the number 0 for its key, and is no class's.
+    for key in [0, 9, u64::MAX] {
+        desk.gives(102, withdraw(key))?;
+        for (place, due) in records.into_iter().enumerate() {
+            desk.record(place, due)?;
+        }
+        desk.gauge(20, 2, 40)?;
+    }
+    // "Key 0 is a class like any other."
+    let records = [FREE, plain(7, 4, 1), record(0, 9, 3, 3, 7)];
+    let mut desk = Desk::with(model, seed, (20, 2, 40), &records, 1);
+    desk.gives(105, withdraw(0))?;
+    desk.record(1, record(7, 4, 1, 2, 41))?;
+    desk.record(2, FREE)?;
+    desk.gives(102, withdraw(0))
+}
+
+fn withdrawal_among_the_tests(model: &Model, seed: u64) -> Result<(), String> {
+    let good = [record(5, 9, 0, 2, 3), plain(7, 2, 0), FREE];
+    let mut damaged = good;
+    damaged[2].slack = 1;
+    let last = (1 << 63) - 1;
+    // On a line, without one, untracked. At the last serial that is good the limit is given.
+    for (key, number, after) in [(5, 105, last + 1), (7, 105, last), (9, 102, last)] {
+        let mut desk = Desk::with(model, seed, (11, 0, last), &good, 1);
+        desk.gives(number, withdraw(key))?;
+        desk.gauge(11, 0, after)?;
+        for serial in [1 << 63, (1 << 63) + 1, u64::MAX] {
+            // "unknown for an untracked key" comes after every test, 10 after 3, and 3 after 1.
+            Desk::with(model, seed, (11, 0, serial), &good, 1).gives(10, withdraw(key))?;
+            Desk::with(model, seed, (11, 0, serial), &damaged, 1).gives(3, withdraw(key))?;
+            for records in [&good, &damaged] {
+                let mut desk = Desk::with(model, seed, (11, 0, serial), records, 1);
+                for lengths in [
+                    [119, 24, 64, 8],
+                    [121, 24, 64, 8],
+                    [0, 24, 64, 8],
+                    [40, 24, 64, 8],
+                    [120, 16, 64, 8],
+                    [120, 23, 64, 8],
+                    [120, 25, 64, 8],
+                    [120, 24, 63, 8],
+                ] {
+                    desk.wrong_lengths(lengths, &withdraw(key))?;
+                }
+            }
+        }
+        // The ticket bytes are a read's.
+        let mut desk = Desk::with(model, seed, (11, 0, 40), &good, 1);
+        desk.both.set_lengths([120, 24, 64, 0]);
+        desk.gives(number, withdraw(key))?;
+        Desk::with(model, seed, (11, 0, 40), &damaged, 1).gives(3, withdraw(key))?;
+    }
+    Ok(())
+}
+
+fn late_fetch_of_a_withdrawn_class(model: &Model, seed: u64) -> Result<(), String> {
+    let mut desk = Desk::fresh(model, seed, 3, 1)?;
+    desk.wanted(1, read(5, 3))?;
+    desk.gives(105, withdraw(5))?;
+    desk.gives(5, fill(5, 1))?;
+    desk.gives(5, fill(5, 0))?;
+    // Read again, the class has the line with another ticket.
+    desk.wanted(2, read(5, 1))?;
+    desk.gives(9, fill(5, 1))?;
+    desk.gives(103, fill(5, 2))?;
+    desk.gives(6, fill(5, 1))?;
+    // Of a filled class nothing is shown once it is withdrawn, and read again.
+    desk.gives(105, withdraw(5))?;
+    desk.look(104, 5)?;
+    desk.wanted(3, read(5, 2))?;
+    desk.gives(9, fill(5, 2))?;
+
+    // Class 7 has the line now: neither the ticket of 5 nor that which 7 had before will do.
+    desk.wanted(4, read(7, 3))?;
+    desk.wanted(5, read(5, 2))?;
+    desk.gives(105, withdraw(5))?;
+    desk.record(1, record(7, 3, 0, 2, 6))?;
+    desk.gives(5, fill(5, 5))?;
+    desk.gives(9, fill(7, 5))?;
+    desk.gives(9, fill(7, 4))?;
+    desk.gives(103, fill(7, 6))
+}
+
+fn withdrawn_and_read_again(model: &Model, seed: u64) -> Result<(), String> {
+    let mut desk = Desk::fresh(model, seed, 2, 1)?;
+    desk.wanted(1, read(1, 5))?;
+    desk.gives(104, read(2, 3))?;
+    // Class 3 takes the place of class 2, whose heat becomes the ceiling.
+    desk.gives(104, read(3, 1))?;
+    desk.record(1, plain(3, 4, 3))?;
+    desk.gauge(9, 3, 1)?;
+    desk.gives(105, withdraw(1))?;
+    desk.record(0, FREE)?;
+    desk.record(1, record(3, 4, 3, 2, 2))?;
+    desk.gauge(9, 3, 2)?;
+    // The free record has level 3, the ceiling.
+    desk.sum(7)?;
+    // In the free record too the class begins at the ceiling, "heat ceiling + w, slack ceiling".
+    desk.wanted(3, read(1, 2))?;
+    desk.record(0, record(1, 5, 3, 2, 3))?;
+    desk.record(1, plain(3, 4, 3))?;
+    desk.gauge(11, 3, 3)?;
+    desk.true_heat(1, 2)?;
+    desk.sum(9)?;
+    // Class 2, which was evicted with true heat 3, comes back into a free record.
+    desk.gives(105, withdraw(3))?;
+    desk.gives(104, read(2, 1))?;
+    desk.record(1, plain(2, 4, 3))?;
+    desk.true_heat(2, 4)?;
+    desk.gauge(12, 3, 3)
+}
+
+fn true_heat_of_a_withdrawn_class(model: &Model, seed: u64) -> Result<(), String> {
+    let mut desk = Desk::fresh(model, seed, 3, 1)?;
+    // Rows 1 to 7: class 9 was evicted, with true heat 2.
+    desk.rows(7)?;
+    desk.true_heat(5, 4)?;
+    desk.true_heat(9, 2)?;
+    desk.gives(102, withdraw(9))?;
+    desk.true_heat(9, 0)?;
+    desk.gives(105, withdraw(5))?;
+    desk.true_heat(5, 0)?;
+    desk.true_heat(7, 5)?;
+    // Class 7 keeps its line, and the ceiling stays.
+    desk.record(0, FREE)?;
+    desk.record(1, record(7, 5, 0, 2, 2))?;
+    desk.record(2, plain(11, 3, 2))?;
+    desk.gauge(12, 2, 2)
 }

@@ -40,6 +40,15 @@ extern "C" {
         picture_len: usize,
         ticket: u64,
     ) -> u64;
+    fn cot_withdraw(
+        table: *mut u8,
+        table_len: usize,
+        gauge: *mut u8,
+        gauge_len: usize,
+        lines: *const u8,
+        lines_len: usize,
+        key: u64,
+    ) -> u64;
     fn cot_age(
         table: *mut u8,
         table_len: usize,
@@ -202,6 +211,7 @@ pub fn library(memory: &mut Memory, call: &Call, picture: Option<&Lent>) -> u64 
                 let (picture, p) = (picture.pointer(), picture.len);
                 cot_fill(table, t, gauge, g, lines, l, *key, picture, p, *ticket)
             }
+            Call::Withdraw { key } => cot_withdraw(table, t, gauge, g, lines, l, *key),
             Call::Age => cot_age(table, t, gauge, g, lines, l),
             Call::Fresh => cot_fresh(table, t, gauge, g, lines, l),
             Call::LevelledSum => cot_levelled_sum(table, t, gauge, g, lines, l, sum, s),
@@ -349,6 +359,7 @@ pub fn call_text(call: &Call) -> String {
                 picture.len()
             )
         }
+        Call::Withdraw { key } => format!("withdrawal of key {key}"),
         Call::Age => "age".to_string(),
         Call::Fresh => "fresh".to_string(),
         Call::LevelledSum => "levelled sum".to_string(),

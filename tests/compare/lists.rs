@@ -1,12 +1,13 @@
-//! Groups (b) and (c): lists of calls from fresh, about one call in ten a look, with fills in time
-//! and late. After each call the library's levelled sum is compared, and demand 3, the sentence on a
-//! picture's ticket and the sum's bound are checked by the replay.
+//! Groups (b) and (c): lists of calls from fresh, about one call in ten a look, with withdrawals and
+//! fills in time and late. After each call the library's levelled sum is compared, and demand 3, the
+//! sentence on a picture's ticket and the sum's bound are checked by the replay.
 
 use crate::damaged::answer_name;
 use crate::harness::{call_text, Both, Memory};
 use crate::model::{gauge_of, is_refused, records_of, Call, Model, Path, Replay, L, MOST_WEIGHT};
 use crate::random::Random;
 use crate::Counts;
+use std::collections::BTreeSet;
 
 /// A list: its table, its keys and its calls.
 pub struct Plan {
@@ -28,9 +29,10 @@ pub struct Plan {
 }
 
 /// The steps that must come in the lists of group (b) together.
-pub const STEPS: [&str; 27] = [
+pub const STEPS: [&str; 38] = [
     "read 2: tracked",
     "read 3: free record",
+    "read 3: free record, ceiling over 0",
     "read 4: ceiling raised",
     "read 4: victim at ceiling",
     "read 4: victim under ceiling",
@@ -56,27 +58,48 @@ pub const STEPS: [&str; 27] = [
     "look: untracked with a free record",
     "look: untracked without a free record",
     "look: untracked, an unused line",
+    "withdraw: untracked",
+    "withdraw: no line",
+    "withdraw: line empty",
+    "withdraw: line filled",
+    "withdraw: line becomes unused",
+    "withdraw: line goes to the hottest",
+    "withdraw: hottest first among equals",
+    "withdraw: hottest no hotter than a free record before it",
+    "withdraw: hottest in the first record",
+    "withdraw: hottest in the last record",
 ];
 
 /// What the fills of the fetches must come to in the lists of group (b) together.
-pub const FETCHES: [&str; 10] = [
+pub const FETCHES: [&str; 13] = [
     "fill in time: at once",
     "fill in time: told again by a look",
     "fill in time: after other calls",
     "late fill, updated: 5",
     "late fill, updated: 6",
     "late fill, updated: 9",
+    "late fill, withdrawn: 5",
+    "late fill, withdrawn: 6",
+    "late fill, withdrawn: 9",
     "late fill, line retaken: 5",
     "late fill, line retaken: 6",
     "late fill, line retaken: 9",
     "late fill, line lost: 5",
 ];
 
+/// What a withdrawal and a read after it must come to in the lists of group (b) together.
+pub const WITHDRAWALS: [&str; 4] = [
+    "withdrawn: true heat over 0",
+    "withdrawn, untracked: true heat over 0",
+    "withdrawn class read again",
+    "withdrawn class read again: free record, ceiling over 0",
+];
+
 /// What must come in the lists of group (c) together. 65,537 reads of 65,535 come to a total of L.
 pub const STEPS_AT_THE_LIMIT: [&str; 1] = ["look: at total L"];
 
-/// The same for fetches. This is rare: the line came back by another class's update, and no wanted
-/// told the new ticket.
+/// The same for fetches. This is rare: the line came back by another class's update or withdrawal,
+/// and no wanted told the new ticket.
 pub const FETCHES_AT_THE_LIMIT: [&str; 1] = ["late fill, line lost: 9"];
 
 /// Group (b): several K and C, with C = 0, K = 1 and C = K - 1 among them.
@@ -182,8 +205,8 @@ struct Fetch {
     last: u64,
     /// The last of them was a look.
     look: bool,
-    /// The key was updated since.
-    updated: bool,
+    /// What made the ticket void since, if anything did: the key was "updated" or "withdrawn".
+    void: Option<&'static str>,
     /// A later wanted of the key told another ticket.
     retold: bool,
 }
@@ -220,16 +243,13 @@ impl Fetches {
                         first: at,
                         last: at,
                         look,
-                        updated: false,
+                        void: None,
                         retold: false,
                     });
                 }
             }
-            Call::Update { key, .. } if !is_refused(found) => {
-                for fetch in self.open.iter_mut().filter(|fetch| fetch.key == *key) {
-                    fetch.updated = true;
-                }
-            }
+            Call::Update { key, .. } if !is_refused(found) => self.make_void(*key, "updated"),
+            Call::Withdraw { key } if !is_refused(found) => self.make_void(*key, "withdrawn"),
             // Stored, 5, 6 or 9: the host is done with it.
             Call::Fill { key, ticket, .. } if found > 4 => {
                 let own = |fetch: &Fetch| (fetch.key, fetch.ticket) == (*key, *ticket);
@@ -239,9 +259,16 @@ impl Fetches {
         }
     }
 
+    /// The tickets told for this key are void.
+    fn make_void(&mut self, key: u64, by: &'static str) {
+        for fetch in self.open.iter_mut().filter(|fetch| fetch.key == key) {
+            fetch.void = Some(by);
+        }
+    }
+
     /// Judges a fill by its fetch, if there is one: where the call before told the ticket, it must
     /// be stored, and where it is late, it must not be. Gives the name of what it came to.
-    fn judge(&self, at: u64, call: &Call, found: u64) -> Result<Option<&'static str>, String> {
+    fn judge(&self, at: u64, call: &Call, found: u64) -> Result<Option<String>, String> {
         let Call::Fill { key, ticket, .. } = call else {
             return Ok(None);
         };
@@ -250,33 +277,31 @@ impl Fetches {
             return Ok(None);
         };
         let just_told = at == fetch.last + 1;
-        match (found, fetch.updated, fetch.retold) {
-            (1..=4, ..) => Ok(None),
-            (103, false, false) if at == fetch.first + 1 => Ok(Some("fill in time: at once")),
-            (103, false, false) if just_told && fetch.look => {
-                Ok(Some("fill in time: told again by a look"))
+        let name = match (found, fetch.void, fetch.retold) {
+            (1..=4, ..) => return Ok(None),
+            (103, None, false) if at == fetch.first + 1 => "fill in time: at once".to_string(),
+            (103, None, false) if just_told && fetch.look => {
+                "fill in time: told again by a look".to_string()
             }
-            (103, false, false) => Ok(Some("fill in time: after other calls")),
-            (5, true, _) => Ok(Some("late fill, updated: 5")),
-            (6, true, _) => Ok(Some("late fill, updated: 6")),
-            (9, true, _) => Ok(Some("late fill, updated: 9")),
-            (5, false, true) => Ok(Some("late fill, line retaken: 5")),
-            (6, false, true) => Ok(Some("late fill, line retaken: 6")),
-            (9, false, true) => Ok(Some("late fill, line retaken: 9")),
-            (5, false, false) if !just_told => Ok(Some("late fill, line lost: 5")),
+            (103, None, false) => "fill in time: after other calls".to_string(),
+            (5 | 6 | 9, Some(by), _) => format!("late fill, {by}: {found}"),
+            (5 | 6 | 9, None, true) => format!("late fill, line retaken: {found}"),
             // A guessed ticket has filled the line.
-            (6, false, false) if !just_told => Ok(None),
-            (9, false, false) if !just_told => Ok(Some("late fill, line lost: 9")),
-            _ => Err(format!(
-                "{} gave {found}; the ticket was told at calls {} to {}, updated since: {}, another \
-                 told since: {}",
-                call_text(call),
-                fetch.first,
-                fetch.last,
-                fetch.updated,
-                fetch.retold
-            )),
-        }
+            (6, None, false) if !just_told => return Ok(None),
+            (5 | 9, None, false) if !just_told => format!("late fill, line lost: {found}"),
+            _ => {
+                return Err(format!(
+                    "{} gave {found}; the ticket was told at calls {} to {}, void since: {:?}, \
+                     another told since: {}",
+                    call_text(call),
+                    fetch.first,
+                    fetch.last,
+                    fetch.void,
+                    fetch.retold
+                ))
+            }
+        };
+        Ok(Some(name))
     }
 }
 
@@ -324,6 +349,7 @@ pub fn run(
         keys.push(random.next());
     }
     let mut fetches = Fetches::default();
+    let mut withdrawn = BTreeSet::new();
     for at in 0..most {
         if let End::AgedFirst(agings) = end {
             if aged_first >= agings {
@@ -331,7 +357,8 @@ pub fn run(
             }
         }
         let refuse = !plan.reads_only && random.chance(4);
-        let serial = both.serial();
+        let before = gauge_of(both.librarys.gauge.bytes());
+        let serial = before.2;
         let (call, lengths) = if refuse {
             refused_call(&keys, &both.librarys, &mut random)
         } else {
@@ -360,14 +387,18 @@ pub fn run(
                 "{text} was to be refused, and gave {found}"
             )));
         }
+        if !refused {
+            count_withdrawn(&call, &path, &replay, &mut withdrawn, counts);
+        }
         replay.feed(&call, refused, serial);
         let (table, gauge, lines) = both.librarys.three();
-        let (total, ceiling, serial_after) = gauge_of(gauge);
+        let after = gauge_of(gauge);
         let clauses = replay.compare(table, gauge, lines);
-        let clauses = clauses.and_then(|()| serial_grows(&call, refused, serial, serial_after));
+        let clauses = clauses.and_then(|()| gauge_moves(&call, refused, before, after));
         clauses.map_err(|text| {
+            let (total, ceiling, serial) = after;
             at_call(format!(
-                "demand 3 after {}: {text} (total {total}, ceiling {ceiling}, serial {serial_after})",
+                "demand 3 after {}: {text} (total {total}, ceiling {ceiling}, serial {serial})",
                 call_text(&call)
             ))
         })?;
@@ -382,7 +413,7 @@ pub fn run(
             counts.add(step);
         }
         if let Some(name) = fetched {
-            counts.add(name);
+            counts.add(&name);
         }
     }
     match end {
@@ -394,18 +425,56 @@ pub fn run(
     }
 }
 
-/// The serial never falls. An accepted read over 0 or update gives at most one ticket, and no other
-/// call gives any.
-fn serial_grows(call: &Call, refused: bool, before: u64, after: u64) -> Result<(), String> {
+/// The serial never falls. An accepted read over 0, update or withdrawal gives at most one ticket,
+/// and no other call gives any. "a withdrawal leaves the ceiling", and the total.
+fn gauge_moves(
+    call: &Call,
+    refused: bool,
+    before: (u64, u64, u64),
+    after: (u64, u64, u64),
+) -> Result<(), String> {
     let most = match call {
         Call::Read { weight: 0, .. } => 0,
-        Call::Read { .. } | Call::Update { .. } if !refused => 1,
+        Call::Read { .. } | Call::Update { .. } | Call::Withdraw { .. } if !refused => 1,
         _ => 0,
     };
-    if after < before || after > before + most {
-        return Err(format!("the serial went from {before} to {after}"));
+    if after.2 < before.2 || after.2 > before.2 + most {
+        return Err(format!("the serial went from {} to {}", before.2, after.2));
+    }
+    let stays = (before.0, before.1) == (after.0, after.1);
+    if matches!(call, Call::Withdraw { .. }) && !stays {
+        return Err(format!("the gauge went from {before:?} to {after:?}"));
     }
     Ok(())
+}
+
+/// Counts an accepted withdrawal by its class's true heat before it, and the first read after it.
+fn count_withdrawn(
+    call: &Call,
+    path: &Path,
+    replay: &Replay,
+    withdrawn: &mut BTreeSet<u64>,
+    counts: &mut Counts,
+) {
+    match call {
+        Call::Withdraw { key } => {
+            withdrawn.insert(*key);
+            let name = if path.contains(&"withdraw: untracked") {
+                "withdrawn, untracked: true heat over 0"
+            } else {
+                "withdrawn: true heat over 0"
+            };
+            counts.add_if(name, replay.true_heat(*key) > 0);
+        }
+        Call::Read { key, weight } if *weight > 0 && withdrawn.remove(key) => {
+            counts.add("withdrawn class read again");
+            counts.add_if(
+                "withdrawn class read again: free record, ceiling over 0",
+                path.contains(&"read 3: free record, ceiling over 0"),
+            );
+        }
+        _ => {}
+    }
 }
 
 /// A class; low numbers come more often, and which classes these are moves on slowly.
@@ -442,7 +511,8 @@ fn next_call(
                 ticket,
             };
         }
-        // Something comes in between: a read, a look or the update of a class that is fetched.
+        // Something comes in between: a read, a look, the update or the withdrawal of a class that
+        // is fetched.
         let key = random.pick(&fetches.open).key;
         match random.below(100) {
             0..=5 => return Call::Read { key, weight: 0 },
@@ -451,6 +521,7 @@ fn next_call(
                 return Call::Read { key, weight };
             }
             9..=12 if !plan.reads_only => return Call::Update { key, weight: 1 },
+            13..=15 if !plan.reads_only => return Call::Withdraw { key },
             _ => {}
         }
     }
@@ -496,6 +567,7 @@ fn next_call(
                 _ => random.between(0, serial),
             },
         },
+        23..=25 => Call::Withdraw { key },
         _ => Call::Read { key, weight },
     }
 }
@@ -528,7 +600,7 @@ fn refused_call(keys: &[u64], memory: &Memory, random: &mut Random) -> (Call, Op
             (Call::Read { key, weight }, Some(lengths))
         }
         _ => {
-            let call = match random.below(7) {
+            let call = match random.below(8) {
                 0 => Call::Read { key, weight: 1 },
                 1 => Call::Read { key, weight: 0 },
                 2 => Call::Update { key, weight: 1 },
@@ -537,8 +609,9 @@ fn refused_call(keys: &[u64], memory: &Memory, random: &mut Random) -> (Call, Op
                     picture: vec![7; 64],
                     ticket,
                 },
-                4 => Call::Age,
-                5 => Call::Fresh,
+                4 => Call::Withdraw { key },
+                5 => Call::Age,
+                6 => Call::Fresh,
                 _ => Call::LevelledSum,
             };
             let lengths = random.pick(&[

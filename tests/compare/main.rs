@@ -21,7 +21,7 @@ use std::process::exit;
 const SEED: u64 = 20_210_323;
 const CALLS: u64 = 400_000;
 const USAGE: &str = "compare [--seed N] [--calls N] [--verbose] [--fault NAME]";
-const FAULTS: [(&str, Fault); 7] = [
+const FAULTS: [(&str, Fault); 8] = [
     ("admit-equal", Fault::AdmitEqual),
     ("fresh-keeps", Fault::FreshKeeps),
     ("sum-heat", Fault::SumHeat),
@@ -29,6 +29,7 @@ const FAULTS: [(&str, Fault); 7] = [
     ("keeps-ticket", Fault::KeepsTicket),
     ("ticket-on-hit", Fault::TicketOnHit),
     ("any-ticket", Fault::AnyTicket),
+    ("free-takes-line", Fault::FreeTakesLine),
 ];
 
 /// How often each answer and each step came.
@@ -217,11 +218,11 @@ fn lists_from_fresh(options: &Options, tally: &mut Tally) {
             &mut counts,
         ));
     }
-    let steps = [&lists::STEPS[..], &lists::FETCHES].concat();
+    let steps = [&lists::STEPS[..], &lists::FETCHES, &lists::WITHDRAWALS].concat();
     tally.steps_came(&steps, &counts, options.seed);
     tally.end_group(&format!(
-        "(b) {} lists of {calls} calls, looks and late fills among them, each from a fresh on any \
-         bytes; demand 3, tickets and the library's levelled sum after each call",
+        "(b) {} lists of {calls} calls, looks, withdrawals and late fills among them, each from a \
+         fresh on any bytes; demand 3, tickets and the library's levelled sum after each call",
         plans.len()
     ));
     if options.verbose {
@@ -244,8 +245,8 @@ fn lists_past_the_limit(options: &Options, tally: &mut Tally) {
     let steps = [lists::STEPS_AT_THE_LIMIT, lists::FETCHES_AT_THE_LIMIT].concat();
     tally.steps_came(&steps, &counts, options.seed);
     tally.end_group(&format!(
-        "(c) {} lists with reads of 65,535 and looks, each to its aging number {agings}, {calls} \
-         calls in all",
+        "(c) {} lists with reads of 65,535, looks and withdrawals, each to its aging number \
+         {agings}, {calls} calls in all",
         plans.len()
     ));
     if options.verbose {

@@ -1,8 +1,8 @@
-//! The rules of document 01 for the exported calls, with document 02's requests as landed (Asks 1
-//! and 2), and the replay of demand 3.
+//! The rules of document 01 for the exported calls, with document 02's requests as landed (Asks 1, 2
+//! and 4, and Ask 3, by which "Answers and lent bytes stay"), and the replay of demand 3.
 //!
 //! In document 01's order, and independent of the library's code. Words in quotes are the
-//! documents'; document 02's on tickets are those of its Ask 2.
+//! documents'; document 02's on tickets are those of its Ask 2, and on withdrawals of its Ask 4.
 
 use std::collections::BTreeMap;
 
@@ -78,6 +78,15 @@ impl Record {
 
 /// "1 is tracked without a line"
 pub const TRACKED: u64 = 1;
+
+/// "State 0 is free (all four numbers are 0)", and so is document 02's fifth.
+pub const FREE: Record = Record {
+    key: 0,
+    heat: 0,
+    slack: 0,
+    state: 0,
+    ticket: 0,
+};
 
 /// "2 + 2 × n is on line n, line empty"
 pub fn empty_on(line: u64) -> u64 {
@@ -171,10 +180,9 @@ pub fn not_in_order(table: &[u8], gauge: &[u8], lines: &[u8]) -> Path {
         causes.push("3: a state over 1 + 2 C");
     }
     // "every free record is all zero"
-    let numbers = |record: &Record| [record.key, record.heat, record.slack, record.ticket];
     if records
         .iter()
-        .any(|record| record.is_free() && numbers(record) != [0; 4])
+        .any(|record| record.is_free() && *record != FREE)
     {
         causes.push("3: a free record not zero");
     }
@@ -212,6 +220,10 @@ pub enum Call {
         picture: Vec<u8>,
         ticket: u64,
     },
+    /// Document 02: "Withdraw, a new call".
+    Withdraw {
+        key: u64,
+    },
     Age,
     Fresh,
     LevelledSum,
@@ -227,13 +239,15 @@ pub enum Answer {
     Unknown,
     Stored,
     Passed,
+    Withdrawn,
     Hit(u64),
     Wanted(u64, u64),
 }
 
 impl Answer {
     /// "returns one number: a refusal's own, 100 for aged, 101 changed, 102 unknown, 103 stored,
-    /// 104 passed, 2,000 + n for hit and 4,000 + n for wanted on line n". Done is 0 in cot.h.
+    /// 104 passed, 2,000 + n for hit and 4,000 + n for wanted on line n". Document 02: "withdrawn
+    /// (105 when exported)". Done is 0 in cot.h.
     pub fn number(self) -> u64 {
         match self {
             Answer::Refused(number) => number,
@@ -243,6 +257,7 @@ impl Answer {
             Answer::Unknown => 102,
             Answer::Stored => 103,
             Answer::Passed => 104,
+            Answer::Withdrawn => 105,
             Answer::Hit(line) => 2_000 + line,
             Answer::Wanted(line, _) => 4_000 + line,
         }
@@ -369,6 +384,9 @@ impl Cache {
                     // 3. "Untracked key with a free record: the first free one"
                     Some(place) => {
                         path.push("read 3: free record");
+                        if self.ceiling > 0 {
+                            path.push("read 3: free record, ceiling over 0");
+                        }
                         place
                     }
                     // 4. "Untracked key, no free record: the victim is the coldest record without
@@ -582,6 +600,62 @@ impl Cache {
         self.records[place].state = filled_on(line);
         Answer::Stored
     }
+
+    /// **Withdraw** of a key, which by document 02 "frees its key's record".
+    fn withdraw(&mut self, key: u64, free_takes_line: bool, path: &mut Path) -> Answer {
+        // "unknown for an untracked key"
+        let Some(place) = self.place_of(key) else {
+            path.push("withdraw: untracked");
+            return Answer::Unknown;
+        };
+        let own = std::mem::replace(&mut self.records[place], FREE);
+        // "the rules then use the first record"
+        if self.place_of(key).is_some() {
+            path.push("withdraw: doubled key, a later record stays");
+        }
+        let Some(line) = own.line() else {
+            path.push("withdraw: no line");
+            return Answer::Withdrawn;
+        };
+        path.push(if own.is_filled() {
+            "withdraw: line filled"
+        } else {
+            "withdraw: line empty"
+        });
+        // "A line it had goes, empty and with a new ticket, to the hottest tracked record left
+        // without one, first among equals, or becomes unused." A free record gets none.
+        let waits =
+            |record: &Record| record.state == TRACKED || (free_takes_line && record.is_free());
+        let Some(hottest) = self.hottest(waits) else {
+            path.push("withdraw: line becomes unused");
+            return Answer::Withdrawn;
+        };
+        let (before, after) = self.records.split_at(hottest);
+        let heat = after[0].heat;
+        for (name, holds) in [
+            ("withdraw: line goes to the hottest", true),
+            (
+                "withdraw: hottest first among equals",
+                self.count_at(heat, waits) > 1,
+            ),
+            (
+                "withdraw: hottest no hotter than a free record before it",
+                heat == 0 && before.iter().any(Record::is_free),
+            ),
+            ("withdraw: hottest in the first record", before.is_empty()),
+            ("withdraw: hottest in the last record", after.len() == 1),
+            (
+                "withdraw: doubled line, given all the same",
+                self.records.iter().any(|r| r.line() == Some(line)),
+            ),
+        ] {
+            if holds {
+                path.push(name);
+            }
+        }
+        self.take_line(hottest, line);
+        Answer::Withdrawn
+    }
 }
 
 // ---------------------------------------------------------------------------------------------
@@ -655,6 +729,9 @@ impl Replay {
                 let kept = self.keys.entry(*key).or_default();
                 kept.picture = Some((picture.clone(), *ticket));
             }
+            // Document 02: "In the replay the class's true heat becomes 0", tracked or not. All else
+            // stays.
+            Call::Withdraw { key } => self.keys.entry(*key).or_default().heat = 0,
         }
     }
 
@@ -666,7 +743,7 @@ impl Replay {
         }
     }
 
-    fn true_heat(&self, key: u64) -> u64 {
+    pub fn true_heat(&self, key: u64) -> u64 {
         self.keys.get(&key).map_or(0, |kept| kept.heat)
     }
 
@@ -847,11 +924,11 @@ pub fn wrong_ticket_bytes(count: usize) -> bool {
 }
 
 /// Cause 10, document 02: "a read over 0, update or fill when the serial is
-/// 9,223,372,036,854,775,808 or more".
+/// 9,223,372,036,854,775,808 or more", and a withdrawal.
 pub fn serial_at_limit(call: &Call, serial: u64) -> bool {
     let tested = match call {
         Call::Read { weight, .. } => *weight > 0,
-        Call::Update { .. } | Call::Fill { .. } => true,
+        Call::Update { .. } | Call::Fill { .. } | Call::Withdraw { .. } => true,
         Call::Age | Call::Fresh | Call::LevelledSum => false,
     };
     tested && serial >= SERIAL_LIMIT
@@ -874,6 +951,8 @@ pub enum Fault {
     TicketOnHit,
     /// A fill may bring any ticket.
     AnyTicket,
+    /// A withdrawn class's line may go to a free record, as if that were a class of heat 0.
+    FreeTakesLine,
 }
 
 /// The calls on lent bytes.
@@ -891,7 +970,7 @@ impl Model {
         path: &mut Path,
     ) -> Answer {
         // "Order of tests: 1, then 2 or 4, then 3, 5, 6." Document 02: 9 is "tested after 6" and 10
-        // "tested after 3".
+        // "tested after 3"; of a withdrawal "refusals 1, 3 and 10 apply".
         let mut causes = wrong_sizes(table, gauge, lines);
         if matches!(call, Call::LevelledSum) && wrong_sum(sum) {
             causes.push("1: sum bytes not 8");
@@ -926,7 +1005,7 @@ impl Model {
                 self.fresh(table, gauge);
                 return Answer::Done;
             }
-            Call::Age | Call::LevelledSum => {}
+            Call::Withdraw { .. } | Call::Age | Call::LevelledSum => {}
         }
         let causes = not_in_order(table, gauge, lines);
         if !causes.is_empty() {
@@ -966,6 +1045,10 @@ impl Model {
             } => {
                 let tested = self.fault != Some(Fault::AnyTicket);
                 cache.fill(lines, *key, picture, tested.then_some(*ticket), path)
+            }
+            Call::Withdraw { key } => {
+                let free_takes_line = self.fault == Some(Fault::FreeTakesLine);
+                cache.withdraw(*key, free_takes_line, path)
             }
             Call::Age => cache.age(),
             Call::LevelledSum => {

@@ -52,6 +52,11 @@ fn age() -> Vec<u8> {
     entry(4, 0, 0, &[0; 64], 0)
 }
 
+/// Document 02: "The journal kind is 5, in the form of an aging but with the key."
+fn withdraw(key: u64) -> Vec<u8> {
+    entry(5, key, 0, &[0; 64], 0)
+}
+
 /// What a whole record asks for, or none where it is "of unknown form".
 fn call_of(record: &[u8]) -> Option<Call> {
     let weight = u64::from(record[2]) + 256 * u64::from(record[3]);
@@ -71,6 +76,7 @@ fn call_of(record: &[u8]) -> Option<Call> {
             ticket,
         }),
         4 if weight == 0 && blank && key == 0 => Some(Call::Age),
+        5 if weight == 0 && blank => Some(Call::Withdraw { key }),
         _ => None,
     }
 }
@@ -87,6 +93,7 @@ fn word(answer: Answer) -> String {
         Answer::Passed => "passed".into(),
         Answer::Hit(_) => "hit".into(),
         Answer::Wanted(..) => "wanted".into(),
+        Answer::Withdrawn => "withdrawn".into(),
     }
 }
 
@@ -307,6 +314,7 @@ const MIXED: &[&str] = &[
     "unknown",
     "stored",
     "aged",
+    "withdrawn",
     "refused-2",
     "refused-5",
     "refused-6",
@@ -325,7 +333,7 @@ fn mixed(random: &mut Random, records: usize) -> Vec<u8> {
         let weight = random.pick(&[0, 1, 1, 2, 3, 500, 65_535]);
         let mut picture = [0; 64];
         picture.copy_from_slice(&random.bytes(64));
-        let mut record = match random.below(10) {
+        let mut record = match random.below(11) {
             0..=4 => read(key, weight),
             5 => update(key, weight),
             6..=8 => {
@@ -337,6 +345,7 @@ fn mixed(random: &mut Random, records: usize) -> Vec<u8> {
                 };
                 entry(3, key, 0, &picture, ticket)
             }
+            9 => withdraw(key),
             _ => age(),
         };
         if random.chance(10) {
@@ -354,12 +363,14 @@ fn mixed(random: &mut Random, records: usize) -> Vec<u8> {
     journal
 }
 
-/// Each unknown form of document 01's section and of document 02's Ask 2, among good records.
+/// Each unknown form of document 01's section and of document 02's Asks 2 and 4, among good
+/// records.
 fn unknown_forms() -> Vec<u8> {
     let mut forms = read(5, 3);
     for (place, byte) in [
         (0, 0),
         (0, 5),
+        (0, 6),
         (0, 255),
         (1, 1),
         (4, 1),
@@ -381,17 +392,31 @@ fn unknown_forms() -> Vec<u8> {
         }
         forms.extend(read(5, 1));
     }
+    // A withdrawal with something in each byte that is not the kind's or the key's.
+    for place in (1..8).chain(16..ENTRY_BYTES) {
+        let mut record = withdraw(5);
+        record[place] = 1 << (place % 8);
+        forms.extend(record);
+    }
+    // An aging with something in each byte of the key, and a kind above the last.
+    for place in 8..16 {
+        let mut record = age();
+        record[place] = 1 << (place % 8);
+        forms.extend(record);
+    }
+    forms.extend(entry(6, 5, 0, &[0; 64], 0));
+    forms.extend(read(5, 1));
     // The ticket that is told, in records that are no fill of it.
     forms.extend(entry(1, 5, 1, &[9; 64], 1));
     forms.extend(entry(0, 5, 0, &[9; 64], 1));
     forms.extend(entry(3, 5, 1, &[9; 64], 1));
     forms.extend(entry(3, 5, 256, &[9; 64], 1));
-    forms.extend(entry(4, 1, 0, &[0; 64], 0));
     forms.extend(entry(4, 0, 1, &[0; 64], 0));
     forms.extend(entry(4, 0, 0, &[1; 64], 0));
     forms.extend(fill(5, 1));
     forms.extend(read(5, 0));
     forms.extend(update(5, 0));
+    forms.extend(withdraw(5));
     forms
 }
 
@@ -450,6 +475,43 @@ const LATE_ROWS: &str = "1 wanted 3 0\n2 changed 3 0\n3 refused-9 3 0\n4 refused
                          9 wanted 13 0\n10 refused-5 13 0\n11 changed 13 0\n12 refused-5 13 0\n\
                          13 refused-9 13 0\n14 refused-9 13 0\n15 stored 13 0\n16 hit 13 0\n";
 
+/// Withdrawals: of untracked keys, of classes with and without a line, a line that becomes unused,
+/// late fetches, a key that comes back with the ceiling over 0.
+fn withdrawals() -> Vec<u8> {
+    [
+        withdraw(5),
+        read(5, 3),
+        fill(5, 1),
+        read(7, 2),
+        withdraw(5),
+        withdraw(5),
+        fill(5, 1),
+        read(7, 0),
+        fill(7, 1),
+        fill(7, 2),
+        read(5, 1),
+        read(9, 1),
+        read(11, 1),
+        withdraw(11),
+        read(11, 2),
+        withdraw(11),
+        withdraw(9),
+        read(7, 0),
+        withdraw(7),
+        read(0, 0),
+        withdraw(0),
+        read(9, 1),
+    ]
+    .concat()
+}
+
+const WITHDRAWAL_ROWS: &str =
+    "1 unknown 0 0\n2 wanted 3 0\n3 stored 3 0\n4 passed 5 0\n5 withdrawn 5 0\n6 unknown 5 0\n\
+     7 refused-5 5 0\n8 wanted 5 0\n9 refused-9 5 0\n10 stored 5 0\n11 passed 6 0\n\
+     12 passed 7 0\n13 passed 8 1\n14 withdrawn 8 1\n15 wanted 10 1\n16 withdrawn 10 1\n\
+     17 withdrawn 10 1\n18 wanted 10 1\n19 withdrawn 10 1\n20 passed 10 1\n21 unknown 10 1\n\
+     22 wanted 11 1\n";
+
 fn cases() -> Vec<Case> {
     let mut random = Random::new(1, 0, 0);
 
@@ -505,6 +567,10 @@ fn cases() -> Vec<Case> {
             begins: "1 passed 0 0\n2 wanted 3 0\n3 wanted 3 0\n4 stored 3 0\n5 hit 3 0\n\
                      6 passed 4 0\n7 passed 4 0\n",
             ..case("looks", looks)
+        },
+        Case {
+            begins: WITHDRAWAL_ROWS,
+            ..case("withdrawals", withdrawals())
         },
         case("every unknown form", unknown_forms()),
         Case {

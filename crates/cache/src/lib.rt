@@ -7,9 +7,9 @@ ghost use Rattle.std.specs.Prelude.{◌≡◌, ◌≤◌, ◌<◌, ◌*◌, ◌^
 ghost use Rattle.rules.specs.Bytes.{record_at, record_count};
 ghost use Rattle.rules.specs.Pass.{sum_of};
 ghost use Rattle.rules.specs.Table.{most_total};
-ghost use Rattle.rules.specs.Calls.{most_records, lent, seen, fresh_outcome, read_outcome, update_outcome, fill_outcome, age_outcome, show_line, levelled_outcome};
+ghost use Rattle.rules.specs.Calls.{most_records, lent, seen, fresh_outcome, read_outcome, update_outcome, fill_outcome, withdraw_outcome, age_outcome, show_line, levelled_outcome};
 ghost use Rattle.rules.specs.Answers.{number_of, answer_said, completion_said, levels_said};
-ghost use Rattle.rules.specs.Numbers.{read_said, update_number, fill_number, age_number, fresh_said, levelled_said};
+ghost use Rattle.rules.specs.Numbers.{read_said, update_number, fill_number, withdraw_number, age_number, fresh_said, levelled_said};
 ghost use Rattle.rules.specs.Steps.{outcome, fill_steps, level};
 ghost use Rattle.lines.specs.Room.{LinesFit};
 ghost use Rattle.cache.specs.Room.{LevelsFit};
@@ -18,9 +18,11 @@ ghost use Rattle.cache.specs.AsLent.{AsLent};
 use fields::{filled, level};
 use records::{LINE_SIZE, RECORD_SIZE, change_record, line_at, put_line, record_at, record_count};
 use rules::{Answer, Gauge, Hub, Lookup, Refusal, View, must};
-use steps::{age_all, read_steps, update_steps};
+use steps::{age_all, read_steps, update_steps, withdraw_steps};
 use tracker::lookup;
-use verdicts::{fill_verdict, plain_verdict, read_verdict, sizes_good, update_verdict};
+use verdicts::{
+    fill_verdict, plain_verdict, read_verdict, sizes_good, update_verdict, withdraw_verdict,
+};
 
 // ---- Fresh
 
@@ -36,7 +38,7 @@ pub fn fresh(table: &mut [u8], gauge: &mut Gauge, lines: &[u8]) -> Result<(), Re
     Ok(())
 }
 
-// ---- Read, update and age
+// ---- Read, update, withdraw and age
 
 // What a call is lent, to look at.
 fn view<'a>(table: &'a [u8], gauge: Gauge, lines: &'a [u8]) -> View<'a>
@@ -96,6 +98,29 @@ pub fn update(
         },
         key,
         weight,
+    ))
+}
+
+// Frees the record of a class that is struck from the books. A line that it had goes to the hottest class without one, or becomes unused.
+#[tactic(auto, unfolding(rules::specs::Calls::withdraw_outcome, rules::specs::Calls::unless, rules::specs::Answers::number_of, rules::specs::Numbers::withdraw_number), using(rules::proofs::Refusals::number_few, rules::proofs::Verdicts::withdraw_accepted))]
+pub fn withdraw(
+    table: &mut [u8],
+    gauge: &mut Gauge,
+    lines: &[u8],
+    key: u64,
+) -> Result<Answer, Refusal>
+    ensures outcome { outcome result (lent table.new gauge.new lines.now) ≡ withdraw_outcome (lent table.old gauge.old lines.now) key }
+    ensures said { number_of result ≡ withdraw_number (lent table.old gauge.old lines.now) key }
+    ensures answer_bound { number_of result < 2 ^ 64 }
+{
+    withdraw_verdict(view(table, *gauge, lines))?;
+    Ok(withdraw_steps(
+        &mut Hub {
+            table,
+            gauge,
+            lines,
+        },
+        key,
     ))
 }
 

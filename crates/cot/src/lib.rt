@@ -8,7 +8,7 @@ ghost use Rattle.rules.specs.Bytes.{gauge_at, put_gauge};
 ghost use Rattle.rules.specs.Answers.{number_of, completion_number};
 ghost use Rattle.rules.specs.Table.{Memory};
 ghost use Rattle.rules.specs.Steps.{Outcome, outcome};
-ghost use Rattle.rules.specs.Calls.{lent, host_lent, hosted, read_lent, put_ticket, exported, exported_read, read_outcome, update_outcome, fill_outcome, age_outcome, exported_fresh, exported_sum};
+ghost use Rattle.rules.specs.Calls.{lent, host_lent, hosted, read_lent, put_ticket, exported, exported_read, read_outcome, update_outcome, fill_outcome, withdraw_outcome, age_outcome, exported_fresh, exported_sum};
 
 use records::{get_u64, put_u64};
 use rules::{Answer, Gauge, Refusal};
@@ -57,6 +57,7 @@ fn number_of(reply: Result<Answer, Refusal>) -> u64
         Ok(Answer::Unknown) => 102,
         Ok(Answer::Stored) => 103,
         Ok(Answer::Passed) => 104,
+        Ok(Answer::Withdrawn) => 105,
         Ok(Answer::Hit(line)) => 2000 + line,
         Ok(Answer::Wanted { line, .. }) => 4000 + line,
         Err(cause) => cause.into(),
@@ -167,6 +168,17 @@ pub extern "C" fn cot_fill(
         Some(gauge) => number_of(cache::fill(table, gauge_at(gauge), lines, key, picture, ticket)),
         None => Refusal::WrongSizes.into(),
     }
+}
+
+// Frees the record of a class that is struck from the books. A line that it had goes to the hottest class without one, or becomes unused.
+#[unsafe(no_mangle)]
+#[tactic(auto, unfolding(rules::specs::Calls::exported))]
+pub extern "C" fn cot_withdraw(table: &mut [u8], gauge: &mut [u8], lines: &[u8], key: u64) -> u64
+    ensures { outcome result (host_lent table.new gauge.new lines.now) ≡ exported (λ m. withdraw_outcome m key) (host_lent table.old gauge.old lines.now) }
+{
+    number_of(hosted(table, gauge, lines, |table, gauge, lines| {
+        cache::withdraw(table, gauge, lines, key)
+    }))
 }
 
 // Halves every heat, total and ceiling downward and every slack upward.

@@ -15,8 +15,8 @@ use Rattle.rules.specs.Bytes.{record_size, gauge_size}
 use Rattle.std.specs.Prelude.{if◌then◌else◌}
 use Rattle.rules.specs.Table.{Memory, is_tracked, is_unlined, is_lined, filled_state, places, size, line_total}
 use Rattle.rules.specs.Answers.{is_refused}
-use Rattle.rules.specs.Steps.{outcome, level, levelled_sum, age_steps, read_steps, update_steps, fill_steps}
-use Rattle.rules.specs.Calls.{OfSizes, HostMemory, HostRead, host_lent, read_lent, put_ticket, number_test, held, hosted, hosted_read, stored, gauge_test, sizes_test, order_test, order_good, verdict, unless, leaving, plain_verdict, read_verdict, update_verdict, fill_verdict, age_outcome, read_outcome, update_outcome, fill_outcome, fresh_outcome, exported_fresh}
+use Rattle.rules.specs.Steps.{outcome, level, levelled_sum, age_steps, read_steps, update_steps, fill_steps, withdraw_steps}
+use Rattle.rules.specs.Calls.{OfSizes, HostMemory, HostRead, host_lent, read_lent, put_ticket, number_test, held, hosted, hosted_read, stored, gauge_test, sizes_test, order_test, order_good, verdict, unless, leaving, plain_verdict, read_verdict, update_verdict, fill_verdict, withdraw_verdict, age_outcome, read_outcome, update_outcome, fill_outcome, withdraw_outcome, fresh_outcome, exported_fresh}
 use Rattle.rules.specs.Replay.{Truth, unheard}
 use Rattle.rules.proofs.Places.{gauge_same}
 use Rattle.rules.proofs.Searches.{sum_least}
@@ -24,21 +24,22 @@ use Rattle.rules.proofs.Chosen.{where_all, count_all}
 use Rattle.rules.proofs.Finds.{key_missing}
 use Rattle.rules.proofs.InOrder.{tracks_in_order}
 use Rattle.rules.proofs.Invariant.{Holds}
-use Rattle.rules.proofs.Verdicts.{first_passes, read_accepted, update_accepted, fill_accepted, accepted_verdict}
+use Rattle.rules.proofs.Verdicts.{first_passes, read_accepted, update_accepted, fill_accepted, withdraw_accepted, accepted_verdict}
 use Rattle.rules.proofs.FreshHolds.{fresh_holds, size_of, fresh_accepts, zeroed_is_fresh}
 use Rattle.rules.proofs.HostCalls.{host_starts}
 use Rattle.rules.proofs.CallsHold.{age_holds}
 use Rattle.rules.proofs.ReadHolds.{read_holds}
 use Rattle.rules.proofs.UpdateHolds.{update_holds}
 use Rattle.rules.proofs.FillHolds.{fill_holds, late_fill_refused}
-use Rattle.demand.specs.List.{read, update, fill, age, Call, key_of, call_outcome, Lent, rattle, host, memory_of, hosted_else, host_made, made, heard, Event, event, told, Follows, nothing, own, elsewhere, accepted_truth, heard_truth, replay, accepted_stale, event_stale, stale_from, stale_up_to}
+use Rattle.rules.proofs.WithdrawHolds.{withdraw_holds}
+use Rattle.demand.specs.List.{read, update, fill, age, withdraw, Call, key_of, call_outcome, Lent, rattle, host, memory_of, hosted_else, host_made, made, heard, Event, event, told, Follows, nothing, own, elsewhere, accepted_truth, heard_truth, replay, accepted_stale, event_stale, stale_from, stale_up_to}
 use Rattle.demand.specs.Demand3.{Demand3, LevelledBound, StaysInOrder, HeavyHittersTracked, LateFillsRefused, AfterEveryList}
 use Rattle.demand.proofs.Refusals.{refused_leaves_all, host_leaves}
 
 -- ---- an accepted call
 call_holds : (c : Call) (m : Memory) (t : Truth) (stale : ℕ → ℕ) → Holds m t stale → key_of c < 2 ^ 64 →
     is_refused (call_outcome c m).answer ≡ false → Holds (call_outcome c m).after (accepted_truth t c) (accepted_stale stale c m.gauge.serial)
-unfolding call_outcome key_of accepted_truth accepted_stale read_outcome update_outcome fill_outcome age_outcome unless age_steps
+unfolding call_outcome key_of accepted_truth accepted_stale read_outcome update_outcome fill_outcome age_outcome withdraw_outcome unless age_steps
 call_holds (read key w) m t stale h fits ok =
     let v = accepted_verdict m (read_steps m key w) (read_verdict m w) ok in
     let a = read_accepted m w v in
@@ -52,6 +53,9 @@ call_holds (fill key picture ticket) m t stale h fits ok =
 call_holds age m t stale h fits ok =
     let v = accepted_verdict m (age_steps m) (plain_verdict m) ok in
     rw v (age_holds m t stale h)
+call_holds (withdraw key) m t stale h fits ok =
+    let v = accepted_verdict m (withdraw_steps m key) (withdraw_verdict m) ok in
+    rw v (withdraw_holds m t stale key h (withdraw_accepted m v))
 
 -- what is stored into a host's memory is held there
 held_stored : (h : HostMemory) (m : Memory) (t : Truth) (stale : ℕ → ℕ) → Holds m t stale → length h.gauge ≡ gauge_size →
@@ -93,6 +97,7 @@ host_made_lem (read key w) h ok = read_accepted_else (read key w) h ok
 host_made_lem (update key w) h ok = (ok, refl)
 host_made_lem (fill key picture ticket) h ok = (ok, refl)
 host_made_lem age h ok = (ok, refl)
+host_made_lem (withdraw key) h ok = (ok, refl)
 
 -- an accepted call is the call on the list's memory, and leaves what that leaves
 pub made_accepted : (c : Call) (lent : Lent) (t : Truth) (stale : ℕ → ℕ) → Holds (memory_of lent) t stale → key_of c < 2 ^ 64 →
@@ -138,7 +143,7 @@ list_holds t stale h (own c lent same fits rest) = list_holds _ _ (own_holds c l
 list_holds t stale h (elsewhere c lent e rest) = list_holds t stale h rest
 
 -- what holds after it
-after_list : (m end : Memory) (es : List Event) → (fresh_outcome m).answer ≡ Ok tt → Follows (fresh_outcome m).after es end →
+pub after_list : (m end : Memory) (es : List Event) → (fresh_outcome m).answer ≡ Ok tt → Follows (fresh_outcome m).after es end →
     Holds end (replay (unheard (size m)) (told es)) (stale_up_to es)
 unfolding stale_up_to
 after_list m end es done follows = list_holds (unheard (size m)) (λ key. 0) (fresh_holds m done) follows

@@ -10,19 +10,20 @@ use lib.ListN.{get_or, replicate}
 use lib.Dec.{eqb}
 use borrow.Author.Tests.{eq-eqb}
 use Rattle.rules.specs.declared.Record.{Record}
-use Rattle.std.specs.Prelude.{None}
+use Rattle.std.specs.Prelude.{Some, None}
+use Rattle.rules.specs.Pass.{Found}
 use Rattle.rules.specs.Bytes.{IsBytes, get64, line_count}
 use Rattle.std.specs.Prelude.{if◌then◌else◌}
 use Rattle.rules.specs.Table.{Memory, key_record, places, size, with_lines}
 use Rattle.rules.specs.Answers.{is_refused, number_of, completion_number}
 use Rattle.rules.specs.Calls.{read_outcome, fill_outcome, fresh_outcome, host_lent, HostRead, read_lent, put_ticket, hosted_read, exported_read, exported_fresh}
 use Rattle.rules.specs.Numbers.{TellsLine}
-use Rattle.rules.specs.Replay.{Filled, filled_with, Truth, unheard, at, update_stale}
+use Rattle.rules.specs.Replay.{Filled, filled_with, Truth, unheard, at, make_stale}
 use Rattle.rules.specs.Sample.{gauge_of, numbers, three_records, sample_picture, host_start}
 use Rattle.rules.proofs.Changes.{at_same}
 use Rattle.rules.proofs.Answered.{host_answered_line}
-use Rattle.demand.specs.List.{Call, read, update, fill, age, call_outcome, key_of, Lent, memory_of, host_made, made, heard, Event, happened, event, told, rattle, host, Follows, nothing, own, elsewhere, heard_truth, replay, accepted_stale, event_stale, stale_up_to, updated, next_serial, ticket_put}
-use Rattle.demand.specs.Demand3.{Demand3, LevelledBound, StaysInOrder, HeavyHittersTracked, GivenSince, TicketsGivenSince}
+use Rattle.demand.specs.List.{Call, read, update, fill, age, withdraw, call_outcome, key_of, Lent, memory_of, host_made, made, heard, Event, happened, event, told, rattle, host, Follows, nothing, own, elsewhere, heard_truth, replay, accepted_stale, event_stale, stale_up_to, voided, next_serial, ticket_put}
+use Rattle.demand.specs.Demand3.{Demand3, LevelledBound, StaysInOrder, HeavyHittersTracked, GivenSince, TicketsGivenSince, Removed}
 use Rattle.demand.specs.Sample.{sample_calls}
 use Rattle.demand.proofs.Computing.{computing}
 use Rattle.demand.proofs.Refusals.{refused_leaves_lent, small_number_leaves}
@@ -31,6 +32,7 @@ use Rattle.demand.proofs.Peek.{peek_leaves_lent, peek_counts_nothing}
 use Rattle.demand.proofs.EveryList.{demand3, late_fills_refused, from_host_fresh}
 use Rattle.demand.proofs.Since.{given_since}
 use Rattle.demand.proofs.Overtaken.{overtaken_refused}
+use Rattle.demand.proofs.Withdrawn.{withdrawals_leave}
 
 -- ---- one clause missed
 -- class 7 and class 8 tracked, with one line and one free record; the rest of what the examples share
@@ -318,13 +320,13 @@ unfolding computing
 late_given = given_since (dirty 2) late_end late_events refl late_list 0 0 (omega arith) refl
 
 -- all that it says
-pub late_giver : (g : GivenSince late_events late_end 5 2) →
-    (late_events ≡ g.before ++ (g.giver ∷ g.later))
+pub any_giver : (es : List Event) (end : Memory) (key ticket : ℕ) (g : GivenSince es end key ticket) →
+    (es ≡ g.before ++ (g.giver ∷ g.later))
     × (g.giver.heard.refused ≡ false)
-    × (g.giver.serial < 2)
-    × (2 ≤ next_serial g.later late_end)
-    × (updated 5 g.later ≡ false)
-late_giver g = (g.whole, g.accepted, g.given.0, g.given.1, g.none_later)
+    × (g.giver.serial < ticket)
+    × (ticket ≤ next_serial g.later end)
+    × (voided key g.later ≡ false)
+any_giver es end key ticket g = (g.whole, g.accepted, g.given.0, g.given.1, g.none_later)
 
 -- the ticket of the first wanted is refused from any call on: that is what the update's class, and its alone, has of stale ones
 pub late_refused : (picture : List ℕ) → is_refused (fill_outcome late_end 5 picture 1).answer ≡ true
@@ -375,6 +377,192 @@ look_overtaken picture =
     nothing)))
     refl
 
+-- ---- withdrawals (document 02)
+-- Classes 5 and 7 get the two lines, 5 its picture; 9 leaves for 11, so that the ceiling is 1. 5 is withdrawn by a host, and 11 gets its
+-- line. 13 is not tracked. 5 is read again: it begins at the ceiling, and takes 7's line with ticket 4. The fill of a fetch from before
+-- the withdrawal is refused with 5, and then with 9; that of the new ticket is stored.
+abbrev struck_before : List Event
+struck_before =
+    happened (read 5 3) false 0
+    ∷ happened (fill 5 (sample_picture 1) 1) false 1
+    ∷ happened (read 7 2) false 1
+    ∷ happened (read 9 1) false 2
+    ∷ happened (read 11 1) false 2
+    ∷ []
+
+abbrev struck_after : List Event
+struck_after =
+    happened (withdraw 5) false 2
+    ∷ happened (withdraw 13) false 3
+    ∷ happened (fill 5 (sample_picture 1) 1) true 3
+    ∷ happened (read 5 4) false 3
+    ∷ happened (fill 5 (sample_picture 1) 1) true 4
+    ∷ happened (fill 5 (sample_picture 2) 4) false 4
+    ∷ []
+
+abbrev struck_events : List Event
+struck_events = struck_before ++ struck_after
+
+abbrev struck_start : Memory
+struck_start =
+    with_lines (sample_picture 1 ++ sample_picture 170)
+    (three_records (numbers 5 3 0 3 1) (numbers 7 2 0 4 2) (numbers 11 2 1 1 0) (gauge_of 7 1 2) 2)
+
+abbrev struck_end : Memory
+struck_end =
+    with_lines (sample_picture 1 ++ sample_picture 2)
+    (three_records (numbers 5 5 1 5 4) (numbers 7 2 0 1 0) (numbers 11 2 1 2 3) (gauge_of 11 1 4) 2)
+
+struck_lead : Follows cleared struck_before struck_start
+unfolding computing
+struck_lead =
+    own (read 5 3) (rattle _) refl (omega arith)
+    (own (fill 5 (sample_picture 1) 1) (rattle _) refl (omega arith)
+    (own (read 7 2) (rattle _) refl (omega arith)
+    (own (read 9 1) (rattle _) refl (omega arith)
+    (own (read 11 1) (rattle _) refl (omega arith)
+    nothing))))
+
+abbrev struck_by_host : Lent
+struck_by_host =
+    host
+    (read_lent (host_lent struck_start.table ((7 ∷ replicate 7 0) ++ (1 ∷ replicate 7 0) ++ (2 ∷ replicate 7 0)) struck_start.lines)
+    eight_bytes)
+
+struck_list : Follows cleared struck_events struck_end
+unfolding computing
+struck_list =
+    own (read 5 3) (rattle _) refl (omega arith)
+    (own (fill 5 (sample_picture 1) 1) (rattle _) refl (omega arith)
+    (own (read 7 2) (rattle _) refl (omega arith)
+    (own (read 9 1) (rattle _) refl (omega arith)
+    (own (read 11 1) (rattle _) refl (omega arith)
+    (own (withdraw 5) struck_by_host refl (omega arith)
+    (own (withdraw 13) (rattle _) refl (omega arith)
+    (own (fill 5 (sample_picture 1) 1) (rattle _) refl (omega arith)
+    (own (read 5 4) (rattle _) refl (omega arith)
+    (own (fill 5 (sample_picture 1) 1) (rattle _) refl (omega arith)
+    (own (fill 5 (sample_picture 2) 4) (rattle _) refl (omega arith)
+    nothing))))))))))
+
+pub struck_demand3 : Demand3 struck_end (replay (unheard 3) (told struck_events)) struck_events
+unfolding computing
+struck_demand3 = demand3 (dirty 2) struck_end struck_events refl struck_list
+
+-- what the replay then has: | In the replay the class's true heat becomes 0
+-- of the one withdrawn, whose picture stays, and no other's; so with one that is not tracked, where it is not refused
+abbrev struck_truth : Truth
+struck_truth = replay (unheard 3) (told (struck_before ++ (happened (withdraw 5) false 2 ∷ [])))
+
+pub struck_replayed :
+    (struck_truth.heat 5 ≡ 0)
+    × (struck_truth.heat 7 ≡ 2)
+    × (struck_truth.heat 9 ≡ 1)
+    × (struck_truth.total ≡ 7)
+    × (struck_truth.picture 5 ≡ some (filled_with (sample_picture 1) 1))
+    × ((heard_truth struck_truth (heard (withdraw 9) false)).heat 9 ≡ 0)
+    × ((heard_truth struck_truth (heard (withdraw 9) true)).heat 9 ≡ 1)
+unfolding computing
+struck_replayed = (refl, refl, refl, refl, refl, refl, refl)
+
+-- the tickets that it makes stale, of a tracked class and of an untracked one
+pub struck_stale : (stale_up_to struck_events 5 ≡ 2) × (stale_up_to struck_events 13 ≡ 3) × (stale_up_to struck_events 7 ≡ 0)
+unfolding computing
+struck_stale = (refl, refl, refl)
+
+-- the fetch with ticket 1 was overtaken: by the serials, and in the words of a host
+pub struck_refused : (picture : List ℕ) → is_refused (fill_outcome struck_end 5 picture 1).answer ≡ true
+unfolding computing
+struck_refused picture = late_fills_refused (dirty 2) struck_end struck_events refl struck_list 5 picture 1 (omega arith)
+
+-- of the untracked class, with the last of its stale tickets
+pub struck_untracked : (picture : List ℕ) → is_refused (fill_outcome struck_end 13 picture 3).answer ≡ true
+unfolding computing
+struck_untracked picture = late_fills_refused (dirty 2) struck_end struck_events refl struck_list 13 picture 3 (omega arith)
+
+pub struck_overtaken : (picture : List ℕ) → is_refused (fill_outcome struck_end 5 picture 1).answer ≡ true
+unfolding computing
+struck_overtaken picture =
+    overtaken_refused (dirty 2) cleared [] refl nothing (rattle _) struck_end
+    (happened (fill 5 (sample_picture 1) 1) false 1
+    ∷ happened (read 7 2) false 1
+    ∷ happened (read 9 1) false 2
+    ∷ happened (read 11 1) false 2
+    ∷ struck_after)
+    5 3 0 1 picture refl (omega arith) refl
+    (own (fill 5 (sample_picture 1) 1) (rattle _) refl (omega arith)
+    (own (read 7 2) (rattle _) refl (omega arith)
+    (own (read 9 1) (rattle _) refl (omega arith)
+    (own (read 11 1) (rattle _) refl (omega arith)
+    (own (withdraw 5) struck_by_host refl (omega arith)
+    (own (withdraw 13) (rattle _) refl (omega arith)
+    (own (fill 5 (sample_picture 1) 1) (rattle _) refl (omega arith)
+    (own (read 5 4) (rattle _) refl (omega arith)
+    (own (fill 5 (sample_picture 1) 1) (rattle _) refl (omega arith)
+    (own (fill 5 (sample_picture 2) 4) (rattle _) refl (omega arith)
+    nothing))))))))))
+    refl
+
+-- by the theorem: ceiling and total stay, and the class has no record
+pub struck_leaves : Removed struck_start (memory_of (made (withdraw 5) struck_by_host).after) 5 false
+unfolding computing
+struck_leaves = withdrawals_leave (dirty 2) struck_start struck_before refl struck_lead 5 struck_by_host refl (omega arith)
+
+-- of a Rattle caller's withdrawal of the largest key, and of a host's that is refused: it lends a byte too many for a gauge
+struck_wide : Follows cleared
+    (happened (read largest 65535) false 0 ∷ happened (fill largest (sample_picture 1) 1) false 1 ∷ []) wide_filled
+unfolding computing
+struck_wide =
+    own (read largest 65535) (rattle _) refl (omega arith)
+    (own (fill largest (sample_picture 1) 1) (rattle _) refl (omega arith) nothing)
+
+abbrev long_gauge : Lent
+long_gauge =
+    host
+    (read_lent (host_lent struck_start.table ((7 ∷ replicate 7 0) ++ (1 ∷ replicate 7 0) ++ (2 ∷ replicate 8 0)) struck_start.lines)
+    eight_bytes)
+
+pub wide_leaves :
+    Removed wide_filled (memory_of (made (withdraw largest) (rattle wide_filled)).after) largest false
+    × Removed struck_start (memory_of (made (withdraw 5) long_gauge).after) 5 true
+unfolding computing
+wide_leaves = (
+  withdrawals_leave (dirty 2) wide_filled _ refl struck_wide largest (rattle wide_filled) refl (omega arith),
+  withdrawals_leave (dirty 2) struck_start struck_before refl struck_lead 5 long_gauge refl (omega arith),
+)
+
+-- in a list, of the largest key, by a host that lends no bytes for a ticket
+pub wide_struck : Follows wide_filled (happened (withdraw largest) false 1 ∷ []) (call_outcome (withdraw largest) wide_filled).after
+unfolding computing
+wide_struck =
+    own (withdraw largest)
+    (host (read_lent (host_lent wide_filled.table (255 ∷ 255 ∷ replicate 14 0 ++ (1 ∷ replicate 7 0)) wide_filled.lines) []))
+    refl (omega arith) nothing
+
+-- all that it says, each missed by one, either way, refused or not
+abbrev class_of : Found → ℕ
+class_of None = 0
+class_of (Some (i, r)) = r.key
+
+pub withdrawn_bites :
+    (¬ Removed (two (numbers 7 4 0 2 5) (numbers 8 3 0 1 0) 2) (two (numbers 0 0 0 0 0) (numbers 8 3 0 2 6) 1) 7 false)
+    × (¬ Removed (three_records (numbers 7 4 0 2 5) (numbers 8 3 0 1 0) (numbers 0 0 0 0 0) (gauge_of 20 2 5) 1)
+    (three_records (numbers 0 0 0 0 0) (numbers 8 3 0 2 6) (numbers 0 0 0 0 0) (gauge_of 19 2 6) 1) 7 false)
+    × (¬ Removed (two (numbers 7 4 0 2 5) (numbers 8 3 0 1 0) 2) (two (numbers 7 0 0 1 0) (numbers 8 3 0 2 5) 2) 7 false)
+    × (¬ Removed (two (numbers 7 4 0 2 5) (numbers 8 3 0 1 0) 2) (two (numbers 7 4 0 2 5) (numbers 8 3 0 1 0) 3) 7 true)
+    × (¬ Removed (three_records (numbers 7 4 0 2 5) (numbers 8 3 0 1 0) (numbers 0 0 0 0 0) (gauge_of 20 2 5) 1)
+    (three_records (numbers 7 4 0 2 5) (numbers 8 3 0 1 0) (numbers 0 0 0 0 0) (gauge_of 21 2 5) 1) 7 true)
+    × (¬ Removed (last (numbers 8 3 0 1 0) (numbers 7 4 0 2 5)) (last (numbers 8 3 0 1 0) (numbers 7 4 0 2 5)) 7 false)
+unfolding computing
+withdrawn_bites = (
+  λ d. let e : ◌≡◌ {A = ℕ} 1 2 = d.ceiling in omega arith,
+  λ d. let e : ◌≡◌ {A = ℕ} 19 20 = d.total in omega arith,
+  λ d. let e : ◌≡◌ {A = ℕ} 7 0 = ap class_of (d.gone refl) in omega arith,
+  λ d. let e : ◌≡◌ {A = ℕ} 3 2 = d.ceiling in omega arith,
+  λ d. let e : ◌≡◌ {A = ℕ} 21 20 = d.total in omega arith,
+  λ d. let e : ◌≡◌ {A = ℕ} 7 0 = ap class_of (d.gone refl) in omega arith,
+)
+
 -- class 7, never updated, filled at the last place on the second line
 abbrev last_events : List Event
 last_events =
@@ -416,27 +604,41 @@ pub spent_leaves : (h : HostRead) → IsBytes h.memory.gauge → number_of (host
     (host_made (update 5 1) h).after ≡ h
 spent_leaves h bytes told = small_number_leaves (update 5 1) h bytes (omega arith)
 
+pub spent_withdrawal_leaves : (h : HostRead) → IsBytes h.memory.gauge → number_of (host_made (withdraw 5) h).answer ≡ 10 →
+    (host_made (withdraw 5) h).after ≡ h
+spent_withdrawal_leaves h bytes told = small_number_leaves (withdraw 5) h bytes (omega arith)
+
 -- any accepted update of a class is seen, whatever comes after it, and makes the tickets up to the serial that it found stale
-pub any_update_seen : (key w serial : ℕ) (es : List Event) → updated key (happened (update key w) false serial ∷ es) ≡ true
+pub any_update_seen : (key w serial : ℕ) (es : List Event) → voided key (happened (update key w) false serial ∷ es) ≡ true
 unfolding computing
 any_update_seen key w serial es = rw (eq-eqb key key refl)
 
 pub any_update_stales : (key w serial : ℕ) (stale : ℕ → ℕ) → event_stale stale (happened (update key w) false serial) key ≡ serial
-unfolding event_stale accepted_stale update_stale
+unfolding event_stale accepted_stale make_stale
 any_update_stales key w serial stale = at_same key serial stale
+
+-- and so is any accepted withdrawal
+pub any_withdrawal_seen : (key serial : ℕ) (es : List Event) → voided key (happened (withdraw key) false serial ∷ es) ≡ true
+unfolding computing
+any_withdrawal_seen key serial es = rw (eq-eqb key key refl)
+
+pub any_withdrawal_stales : (key serial : ℕ) (stale : ℕ → ℕ) → event_stale stale (happened (withdraw key) false serial) key ≡ serial
+unfolding event_stale accepted_stale make_stale
+any_withdrawal_stales key serial stale = at_same key serial stale
 
 -- what the next call finds, and what the list leaves
 pub next_found : (m : Memory) → (next_serial (happened age false 3 ∷ happened age false 4 ∷ []) m ≡ 3) × (next_serial [] m ≡ m.gauge.serial)
 unfolding computing
 next_found m = (refl, refl)
 
--- an accepted update of the class is seen, refused ones and those of others are not
+-- an accepted update of the class is seen; refused ones and those of other classes are not, nor such withdrawals
 pub updates_seen :
-    (updated 7 (happened (update 7 1) false 0 ∷ []) ≡ true)
-    × (updated 7 (happened (read 7 1) false 0 ∷ happened (update 7 1) false 0 ∷ []) ≡ true)
-    × (updated 7 (happened (update 7 1) true 0 ∷ happened (update 8 1) false 0 ∷ []) ≡ false)
+    (voided 7 (happened (update 7 1) false 0 ∷ []) ≡ true)
+    × (voided 7 (happened (read 7 1) false 0 ∷ happened (update 7 1) false 0 ∷ []) ≡ true)
+    × (voided 7 (happened (update 7 1) true 0 ∷ happened (update 8 1) false 0 ∷ []) ≡ false)
+    × (voided 7 (happened (withdraw 7) true 0 ∷ happened (withdraw 8) false 0 ∷ []) ≡ false)
 unfolding computing
-updates_seen = (refl, refl, refl)
+updates_seen = (refl, refl, refl, refl)
 
 -- ---- the sample, as a host is told of it, and what it finds in a ticket's bytes
 abbrev told_host : List Event → HostRead → List ℕ

@@ -4,6 +4,7 @@ pub mod Peek
 pub mod EveryList
 pub mod Since
 pub mod Overtaken
+pub mod Withdrawn
 pub mod SampleList
 pub mod Idle
 pub mod Examples

@@ -1,5 +1,5 @@
--- A fill that brings the ticket of a fetch which an update of its class overtook is refused: a ticket that a read tells has been given by
--- then, and an accepted update of the class makes all that have been given stale. Assumes nothing.
+-- A fill that brings the ticket of a fetch which an update or a withdrawal of its class overtook is refused: a ticket that a read tells
+-- has been given by then, and either, once accepted, makes all that the class has been given stale. Assumes nothing.
 use Prim.Native.Nat.{ℕ, ◌+◌, ◌≤◌, ◌<◌, ◌^◌}
 use mathlib.Core.Path.{◌≡◌, refl, sym, ◌∙◌, ap}
 use mathlib.Core.Bool.{Bool, true, false, true≢false}
@@ -27,7 +27,7 @@ use Rattle.rules.proofs.FreshHolds.{fresh_holds}
 use Rattle.demand.specs.List.{read, key_of, call_outcome, Lent, rattle, host, memory_of, host_made, made, told as told_heard, replay, stale_from}
 use Rattle.demand.specs.Demand3.{OvertakenRefused, AfterEveryList}
 use Rattle.demand.proofs.EveryList.{made_accepted, own_holds, list_holds}
-use Rattle.demand.proofs.Since.{stale_updated}
+use Rattle.demand.proofs.Since.{stale_voided}
 
 -- a ticket that a read tells stands in its record, so that it has been given
 module _ (m : Memory) (key w n ticket : ℕ) (t : Truth) (stale : ℕ → ℕ) where
@@ -106,5 +106,5 @@ overtaken_refused m told es done lead lent end later key w n ticket picture same
         let k = own_holds (read key w) lent _ _ h same fits in
         let after = (made_accepted (read key w) lent _ _ here fits (ap is_refused wants)).1 in
         let given = told_given (memory_of lent) key w n ticket _ _ here.bytes fits (rw after at k) (wanted_held lent key w n ticket wants) in
-        late_fill_refused end _ _ key picture ticket (list_holds _ _ k rest) (omega (arith, given, ap (λ (m : Memory). m.gauge.serial) after, stale_updated _ _ key k rest changes))
+        late_fill_refused end _ _ key picture ticket (list_holds _ _ k rest) (omega (arith, given, ap (λ (m : Memory). m.gauge.serial) after, stale_voided _ _ key k rest changes))
     go (Err cause) = refl

@@ -11,8 +11,8 @@ use Rattle.rules.specs.Answers.{is_refused, number_of, Told}
 use Rattle.rules.specs.Bytes.{IsBytes, gauge_size}
 use Rattle.rules.specs.Calls.{HostMemory, HostRead, read_lent, held, stored}
 use Rattle.rules.proofs.Places.{gauge_kept}
-use Rattle.rules.proofs.Refusals.{read_leaves, update_leaves, fill_leaves, age_leaves, hosted_leaves, read_hosted_leaves, every_told}
-use Rattle.demand.specs.List.{read, update, fill, age, Call, call_outcome, hosted_else, host_made, Lent, rattle, host, made, HoldsBytes}
+use Rattle.rules.proofs.Refusals.{read_leaves, update_leaves, fill_leaves, age_leaves, withdraw_leaves, hosted_leaves, read_hosted_leaves, every_told}
+use Rattle.demand.specs.List.{read, update, fill, age, withdraw, Call, call_outcome, hosted_else, host_made, Lent, rattle, host, made, HoldsBytes}
 
 -- ---- a Rattle caller's
 pub refused_leaves_all : (c : Call) (m : Memory) → is_refused (call_outcome c m).answer ≡ true → (call_outcome c m).after ≡ m
@@ -21,6 +21,7 @@ refused_leaves_all (read key w) m = read_leaves m key w
 refused_leaves_all (update key w) m = update_leaves m key w
 refused_leaves_all (fill key picture ticket) m = fill_leaves m key picture ticket
 refused_leaves_all age m = age_leaves m
+refused_leaves_all (withdraw key) m = withdraw_leaves m key
 
 -- ---- a C host's
 -- what is seen of its memory stays, if putting the gauge back as it was read leaves it, and so do a ticket's bytes
@@ -34,6 +35,8 @@ host_leaves seen (update key w) h put e = (hosted_leaves _ h.memory seen (refuse
 host_leaves seen (fill key picture ticket) h put e =
     (hosted_leaves _ h.memory seen (refused_leaves_all (fill key picture ticket) (held h.memory)) put e, refl)
 host_leaves seen age h put e = (hosted_leaves _ h.memory seen (refused_leaves_all age (held h.memory)) put e, refl)
+host_leaves seen (withdraw key) h put e =
+    (hosted_leaves _ h.memory seen (refused_leaves_all (withdraw key) (held h.memory)) put e, refl)
 
 -- ---- anybody's
 pub refused_leaves_lent : (c : Call) (lent : Lent) → HoldsBytes lent → is_refused (made c lent).answer ≡ true → (made c lent).after ≡ lent

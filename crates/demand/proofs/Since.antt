@@ -1,5 +1,5 @@
--- A call gives one ticket at most, and the serial never falls; and the ticket of a filled line was given by the last accepted update of
--- its class, if any, or by a later call. Assumes nothing.
+-- A call gives one ticket at most, and the serial never falls; and the ticket of a filled line was given by the last accepted update or
+-- withdrawal of its class, if any, or by a later call. Assumes nothing.
 use Prim.Native.Nat.{ℕ, ◌≤◌, ◌<◌, ◌^◌}
 use mathlib.Core.Path.{◌≡◌, refl, ap}
 use mathlib.Core.Bool.{Bool, true, false, ◌||◌, false≢true}
@@ -10,12 +10,12 @@ use borrow.Author.Tests.{eqb-true}
 use Rattle.rules.specs.Table.{Memory, places, size}
 use Rattle.rules.specs.Answers.{is_refused}
 use Rattle.rules.specs.Steps.{next_ticket, GivesOne}
-use Rattle.rules.specs.Replay.{Truth, unheard, update_stale}
+use Rattle.rules.specs.Replay.{Truth, unheard, make_stale}
 use Rattle.rules.proofs.Changes.{at_same, at_all}
 use Rattle.rules.proofs.Invariant.{Holds}
-use Rattle.rules.proofs.Serials.{read_gives, update_gives, fill_gives_none, age_gives_none}
+use Rattle.rules.proofs.Serials.{read_gives, update_gives, fill_gives_none, age_gives_none, withdraw_gives}
 use Rattle.rules.proofs.FreshHolds.{fresh_holds, fresh_serial}
-use Rattle.demand.specs.List.{Call, read, update, fill, age, key_of, call_outcome, Lent, memory_of, made, Event, event, Follows, nothing, own, elsewhere, accepted_stale, event_stale, stale_from, stale_up_to, is_update_of, updates, updated, next_serial}
+use Rattle.demand.specs.List.{Call, read, update, fill, age, withdraw, key_of, call_outcome, Lent, memory_of, made, Event, event, Follows, nothing, own, elsewhere, accepted_stale, event_stale, stale_from, stale_up_to, call_voids, voids, voided, next_serial}
 use Rattle.demand.specs.Demand3.{GivenSince, TicketsGivenSince, AfterEveryList}
 use Rattle.demand.proofs.EveryList.{demand3, made_accepted, refused_stays, own_holds}
 
@@ -26,6 +26,7 @@ serial_grows (read key w) m = read_gives m key w
 serial_grows (update key w) m = update_gives m key w
 serial_grows (fill key picture ticket) m = let same = fill_gives_none m key picture ticket in rw same (omega arith)
 serial_grows age m = let same = age_gives_none m in omega arith
+serial_grows (withdraw key) m = withdraw_gives m key
 
 -- ---- a call of a list
 module _ (c : Call) (lent : Lent) (t : Truth) (stale : ℕ → ℕ) (h : Holds (memory_of lent) t stale) (fits : key_of c < 2 ^ 64) where
@@ -50,11 +51,12 @@ next_finds (elsewhere c lent e rest) = refl
 -- ---- stale tickets
 -- an accepted call leaves a class's as they are, or makes them the serial that it found
 stale_either : (stale : ℕ → ℕ) (c : Call) (serial key least : ℕ) → least ≤ serial → least ≤ stale key → least ≤ accepted_stale stale c serial key
-unfolding accepted_stale update_stale
+unfolding accepted_stale make_stale
 stale_either stale (read k w) serial key least low was = was
 stale_either stale (update k w) serial key least low was = at_all (λ key x. least ≤ stale key → least ≤ x) k serial stale (λ _. low) key (λ _ h. h) was
 stale_either stale (fill k picture ticket) serial key least low was = was
 stale_either stale age serial key least low was = was
+stale_either stale (withdraw k) serial key least low was = at_all (λ key x. least ≤ stale key → least ≤ x) k serial stale (λ _. low) key (λ _ h. h) was
 
 event_either : (stale : ℕ → ℕ) (c : Call) (refused : Bool) (m : Memory) (key least : ℕ) → least ≤ m.gauge.serial → least ≤ stale key →
     least ≤ event_stale stale (event c refused m) key
@@ -62,17 +64,18 @@ unfolding event_stale
 event_either stale c true m key least low was = was
 event_either stale c false m key least low was = stale_either stale c m.gauge.serial key least low was
 
--- an update makes them that
-event_updates : (stale : ℕ → ℕ) (c : Call) (refused : Bool) (m : Memory) (key : ℕ) → updates key (event c refused m) ≡ true →
+-- an update or a withdrawal makes them that
+event_voids : (stale : ℕ → ℕ) (c : Call) (refused : Bool) (m : Memory) (key : ℕ) → voids key (event c refused m) ≡ true →
     event_stale stale (event c refused m) key ≡ m.gauge.serial
-unfolding event_stale updates is_update_of accepted_stale update_stale
-event_updates stale c true m key e = absurd (false≢true e)
-event_updates stale (read k w) false m key e = absurd (false≢true e)
-event_updates stale (update k w) false m key e = rw (eqb-true k key e) (at_same key m.gauge.serial stale)
-event_updates stale (fill k picture ticket) false m key e = absurd (false≢true e)
-event_updates stale age false m key e = absurd (false≢true e)
+unfolding event_stale voids call_voids accepted_stale make_stale
+event_voids stale c true m key e = absurd (false≢true e)
+event_voids stale (read k w) false m key e = absurd (false≢true e)
+event_voids stale (update k w) false m key e = rw (eqb-true k key e) (at_same key m.gauge.serial stale)
+event_voids stale (fill k picture ticket) false m key e = absurd (false≢true e)
+event_voids stale age false m key e = absurd (false≢true e)
+event_voids stale (withdraw k) false m key e = rw (eqb-true k key e) (at_same key m.gauge.serial stale)
 
--- in a list they never fall below what they were, and are no less than the serial at the start once an update is accepted
+-- in a list they never fall below what they were, and are no less than the serial at the start once they are made void
 stale_stays : {m end : Memory} {es : List Event} (t : Truth) (stale : ℕ → ℕ) (key least : ℕ) → Holds m t stale → Follows m es end →
     least ≤ m.gauge.serial → least ≤ stale key → least ≤ stale_from stale es key
 unfolding stale_from event_stale
@@ -84,13 +87,13 @@ stale_stays {m} t stale key least h (own c lent same fits rest) low was =
     (event_either stale c (is_refused (made c lent).answer) m key least low was)
 stale_stays {m} t stale key least h (elsewhere c lent e rest) low was = stale_stays t _ key least h rest low was
 
-pub stale_updated : {m end : Memory} {es : List Event} (t : Truth) (stale : ℕ → ℕ) (key : ℕ) → Holds m t stale → Follows m es end →
-    updated key es ≡ true → m.gauge.serial ≤ stale_from stale es key
-unfolding stale_from updated event_stale updates
-stale_updated t stale key h nothing e = absurd (false≢true e)
-stale_updated {m} t stale key h (own {es = es} c lent same fits rest) e =
-    go (updates key (event c (is_refused (made c lent).answer) m)) refl
-    (λ later. stale_updated _ _ key (own_holds c lent t stale h same (omega arith)) rest later) e
+pub stale_voided : {m end : Memory} {es : List Event} (t : Truth) (stale : ℕ → ℕ) (key : ℕ) → Holds m t stale → Follows m es end →
+    voided key es ≡ true → m.gauge.serial ≤ stale_from stale es key
+unfolding stale_from voided event_stale voids
+stale_voided t stale key h nothing e = absurd (false≢true e)
+stale_voided {m} t stale key h (own {es = es} c lent same fits rest) e =
+    go (voids key (event c (is_refused (made c lent).answer) m)) refl
+    (λ later. stale_voided _ _ key (own_holds c lent t stale h same (omega arith)) rest later) e
   where
     k : Holds (memory_of lent) t stale
     k = rw same h
@@ -99,16 +102,16 @@ stale_updated {m} t stale key h (own {es = es} c lent same fits rest) e =
     grows = own_grows c lent t stale k (omega arith) same
 
     -- it is here, or later
-    go : (b : Bool) → updates key (event c (is_refused (made c lent).answer) m) ≡ b →
-        (updated key es ≡ true →
+    go : (b : Bool) → voids key (event c (is_refused (made c lent).answer) m) ≡ b →
+        (voided key es ≡ true →
         (memory_of (made c lent).after).gauge.serial ≤ stale_from (event_stale stale (event c (is_refused (made c lent).answer) m)) es key) →
-        (b || updated key es) ≡ true →
+        (b || voided key es) ≡ true →
         m.gauge.serial ≤ stale_from (event_stale stale (event c (is_refused (made c lent).answer) m)) es key
     go true u later e =
         stale_stays _ _ key m.gauge.serial (own_holds c lent t stale h same (omega arith)) rest grows
-        (omega (arith, event_updates stale c (is_refused (made c lent).answer) m key u))
+        (omega (arith, event_voids stale c (is_refused (made c lent).answer) m key u))
     go false u later e = omega (arith, grows, later e)
-stale_updated t stale key h (elsewhere c lent refused rest) e = stale_updated t stale key h rest e
+stale_voided t stale key h (elsewhere c lent refused rest) e = stale_voided t stale key h rest e
 
 -- ---- who gave a ticket
 -- a call that is before
@@ -142,7 +145,7 @@ gave {m} {end} t stale key ticket h (own {es = es} c lent same fits rest) over m
             whole = refl;
             accepted = not_refused (is_refused (made c lent).answer) refl (omega arith);
             given = (over, omega (arith, next_finds rest));
-            none_later = not_updated (updated key es) refl (omega arith);
+            none_later = not_voided (voided key es) refl (omega arith);
           }
     ]
   where
@@ -155,10 +158,10 @@ gave {m} {end} t stale key ticket h (own {es = es} c lent same fits rest) over m
         absurd (omega (arith, ap (λ (m : Memory). m.gauge.serial) same, refused_gives_none c lent t stale k (omega arith) e))
     not_refused false e reached = refl
 
-    -- a later update would have made the ticket stale
-    not_updated : (b : Bool) → updated key es ≡ b → ticket ≤ (memory_of (made c lent).after).gauge.serial → b ≡ false
-    not_updated true e reached = absurd (omega (arith, stale_updated _ _ key (own_holds c lent t stale h same (omega arith)) rest e))
-    not_updated false e reached = refl
+    -- a later update or withdrawal would have made the ticket stale
+    not_voided : (b : Bool) → voided key es ≡ b → ticket ≤ (memory_of (made c lent).after).gauge.serial → b ≡ false
+    not_voided true e reached = absurd (omega (arith, stale_voided _ _ key (own_holds c lent t stale h same (omega arith)) rest e))
+    not_voided false e reached = refl
 gave {m} t stale key ticket h (elsewhere c lent e rest) over most fresh = before (event c true m) (gave t stale key ticket h rest over most fresh)
 
 -- | a filled line shows a picture whose ticket was given by the last accepted update of its class, if any, or after it

@@ -1,13 +1,13 @@
--- The list of demand 3: its calls, what they are lent, how one follows another, what the replay makes of them, and which tickets their
--- updates leave stale.
+-- The list of demand 3: its calls, what they are lent, how one follows another, what the replay makes of them, and which tickets they
+-- leave stale.
 use Rattle.std.specs.Prelude.{ℕ, ◌<◌, ◌^◌, ◌≡◌, List, [], ◌∷◌, Bool, true, false, ◌||◌, eqb, if◌then◌else◌}
 use Rattle.rules.specs.Answers.{Reply}
 use Rattle.rules.specs.Table.{Memory}
 use Rattle.rules.specs.Answers.{is_refused}
 use Rattle.rules.specs.Steps.{Outcome, outcome}
 use Rattle.rules.specs.Bytes.{IsBytes}
-use Rattle.rules.specs.Calls.{held, hosted, HostRead, read_lent, put_ticket, hosted_read, age_outcome, read_outcome, update_outcome, fill_outcome}
-use Rattle.rules.specs.Replay.{Truth, age_truth, read_truth, update_truth, fill_truth, update_stale}
+use Rattle.rules.specs.Calls.{held, hosted, HostRead, read_lent, put_ticket, hosted_read, age_outcome, read_outcome, update_outcome, fill_outcome, withdraw_outcome}
+use Rattle.rules.specs.Replay.{Truth, age_truth, read_truth, update_truth, fill_truth, withdraw_truth, make_stale}
 
 -- ---- a call
 -- with all that it is given besides the memory; a read of weight 0 is a look
@@ -16,12 +16,14 @@ pub data Call : Type 0 where
   update : (key weight : ℕ) → Call
   fill : (key : ℕ) (picture : List ℕ) (ticket : ℕ) → Call
   age : Call
+  withdraw : (key : ℕ) → Call
 
 unfoldable pub call_outcome : Call → Memory → Outcome Reply Memory
 call_outcome (read key w) m = read_outcome m key w
 call_outcome (update key w) m = update_outcome m key w
 call_outcome (fill key picture ticket) m = fill_outcome m key picture ticket
 call_outcome age m = age_outcome m
+call_outcome (withdraw key) m = withdraw_outcome m key
 
 -- (an aging has none)
 unfoldable pub key_of : Call → ℕ
@@ -29,6 +31,7 @@ key_of (read key w) = key
 key_of (update key w) = key
 key_of (fill key picture ticket) = key
 key_of age = 0
+key_of (withdraw key) = key
 
 -- ---- what it is lent: by a Rattle caller, or by a C host, whose gauge is bytes, and who lends a read bytes for a ticket
 pub data Lent : Type 0 where
@@ -48,6 +51,7 @@ host_made (read key w) = hosted_read (call_outcome (read key w))
 host_made (update key w) = hosted_else (call_outcome (update key w))
 host_made (fill key picture ticket) = hosted_else (call_outcome (fill key picture ticket))
 host_made age = hosted_else (call_outcome age)
+host_made (withdraw key) = hosted_else (call_outcome (withdraw key))
 
 unfoldable pub made : Call → Lent → Outcome Reply Lent
 made c (rattle m) = outcome (call_outcome c m).answer (rattle (call_outcome c m).after)
@@ -108,6 +112,7 @@ accepted_truth t (read key w) = read_truth t key w
 accepted_truth t (update key w) = update_truth t key w
 accepted_truth t (fill key picture ticket) = fill_truth t key picture ticket
 accepted_truth t age = age_truth t
+accepted_truth t (withdraw key) = withdraw_truth t key
 
 -- | Refused call: no change.
 unfoldable pub heard_truth : Truth → Heard → Truth
@@ -118,12 +123,13 @@ replay t [] = t
 replay t (h ∷ hs) = replay (heard_truth t h) hs
 
 -- ---- its stale tickets
--- for each class, the serial that its last accepted update found, tracked or not, and 0 where there is none
+-- for each class, the serial that its last accepted update or withdrawal found, tracked or not, and 0 where there is none
 unfoldable pub accepted_stale : (ℕ → ℕ) → Call → ℕ → ℕ → ℕ
 accepted_stale stale (read key w) serial = stale
-accepted_stale stale (update key w) serial = update_stale stale key serial
+accepted_stale stale (update key w) serial = make_stale stale key serial
 accepted_stale stale (fill key picture ticket) serial = stale
 accepted_stale stale age serial = stale
+accepted_stale stale (withdraw key) serial = make_stale stale key serial
 
 unfoldable pub event_stale : (ℕ → ℕ) → Event → ℕ → ℕ
 event_stale stale e = if e.heard.refused then stale else accepted_stale stale e.heard.call e.serial
@@ -136,19 +142,20 @@ unfoldable pub stale_up_to : List Event → ℕ → ℕ
 stale_up_to = stale_from (λ key. 0)
 
 -- ---- who gave a ticket
--- whether an update of a class was accepted
-unfoldable pub is_update_of : ℕ → Call → Bool
-is_update_of key (read k w) = false
-is_update_of key (update k w) = eqb k key
-is_update_of key (fill k picture ticket) = false
-is_update_of key age = false
+-- whether a call, once accepted, makes void the tickets that a class has been given, which are stale then: an update or a withdrawal of it
+unfoldable pub call_voids : ℕ → Call → Bool
+call_voids key (read k w) = false
+call_voids key (update k w) = eqb k key
+call_voids key (fill k picture ticket) = false
+call_voids key age = false
+call_voids key (withdraw k) = eqb k key
 
-unfoldable pub updates : ℕ → Event → Bool
-updates key e = if e.heard.refused then false else is_update_of key e.heard.call
+unfoldable pub voids : ℕ → Event → Bool
+voids key e = if e.heard.refused then false else call_voids key e.heard.call
 
-unfoldable pub updated : ℕ → List Event → Bool
-updated key [] = false
-updated key (e ∷ es) = updates key e || updated key es
+unfoldable pub voided : ℕ → List Event → Bool
+voided key [] = false
+voided key (e ∷ es) = voids key e || voided key es
 
 -- the serial that the next call finds, or that the list leaves
 unfoldable pub next_serial : List Event → Memory → ℕ

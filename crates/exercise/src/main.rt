@@ -1,6 +1,6 @@
 // Runs what a Rattle caller can call and nothing else here runs, and prints what each call gives: fresh on memory that is not zero,
-// show, the levelled sum, the calls on a gauge that the caller holds, looks among them, a late fill, a serial that is spent, the
-// journal's reader, and a run whose rows have no room.
+// show, the levelled sum, the calls on a gauge that the caller holds, looks and withdrawals among them, a late fill, a serial that is
+// spent, the journal's reader, and a run whose rows have no room.
 #![tactic(auto)]
 
 use journal::{ENTRY_SIZE, decode, first_two};
@@ -47,6 +47,7 @@ impl fmt::Display for Heard {
                 ),
             ) => write!(f, "fill {key} {picture} {ticket}"),
             Some(Ok(Entry::Age)) => write!(f, "age"),
+            Some(Ok(Entry::Withdraw { key })) => write!(f, "withdraw {key}"),
             Some(Err(cause)) => write!(f, "{cause}"),
             None => write!(f, "done"),
         }
@@ -142,6 +143,11 @@ impl Hub {
         self.told(rt, "fill", reply)
     }
 
+    fn withdraw(&mut self, rt: &impl Print, key: u64) -> io::Result<()> {
+        let reply = cache::withdraw(&mut self.table, &mut self.gauge, &self.lines, key);
+        self.told(rt, "withdraw", reply)
+    }
+
     fn age(&mut self, rt: &impl Print) -> io::Result<()> {
         let reply = cache::age(&mut self.table, &mut self.gauge, &self.lines);
         self.told(rt, "age", reply)
@@ -202,10 +208,22 @@ fn shown(rt: &impl Print, hub: &Hub) -> io::Result<()> {
     show(rt, &hub.table, Gauge::default(), &hub.lines, 5)
 }
 
-// No more tickets can be given: a read is refused, and a look is answered.
+// 5 leaves line 0 to 7, with ticket 5. Then 7 is withdrawn, and nobody waits for the line. 5 is not tracked any more, and begins at the
+// ceiling when it is read again, with ticket 6.
+fn withdrawn(rt: &impl Print, hub: &mut Hub) -> io::Result<()> {
+    hub.withdraw(rt, 5)?;
+    hub.read(rt, 7, 0)?;
+    hub.withdraw(rt, 7)?;
+    hub.withdraw(rt, 5)?;
+    hub.read(rt, 5, 1)?;
+    sum(rt, &hub.table, hub.gauge, &hub.lines)
+}
+
+// No more tickets can be given: a read and a withdrawal are refused, and a look is answered.
 fn spent(rt: &impl Print, hub: &mut Hub) -> io::Result<()> {
     hub.gauge.serial = SERIAL_LIMIT;
     hub.read(rt, 5, 1)?;
+    hub.withdraw(rt, 5)?;
     hub.read(rt, 5, 0)
 }
 
@@ -266,7 +284,7 @@ fn pairs(rt: &impl Print, journal: &[u8]) -> io::Result<()> {
     )
 }
 
-// A read, a fill, an update, an aging, a record of unknown form and a short end.
+// A read, a fill, an update, an aging, a withdrawal, a record of unknown form and a short end.
 fn entries(rt: &impl Print) -> io::Result<()> {
     let mut fill = entry(3, 0, 7);
     fill[16] = 9;
@@ -276,14 +294,15 @@ fn entries(rt: &impl Print) -> io::Result<()> {
         fill,
         entry(2, 2, 6),
         entry(4, 0, 0),
+        entry(5, 0, 8),
         entry(9, 0, 0),
         [0; ENTRY_SIZE],
     ];
-    // The last of the six keeps 30 bytes. (The proof asks that the cut lies inside.)
+    // The last of the seven keeps 30 bytes. (The proof asks that the cut lies inside.)
     let whole = journal.as_flattened();
-    let journal = &whole[..whole.len().min(470)];
+    let journal = &whole[..whole.len().min(558)];
     pairs(rt, journal)?;
-    for at in [176, 264, 352, 440, 470, 471] {
+    for at in [176, 264, 352, 440, 528, 558, 559] {
         let decoded = decode(journal, at);
         println!(rt; "{}; next {}", Heard(decoded.entry), decoded.next)?;
     }
@@ -356,6 +375,7 @@ fn main(rt: HostRuntime) -> io::Result<()> {
     hub.fill(&rt, 11, &picture(2, 8, 3), 4)?;
     hub.show(&rt, 11)?;
     sum(&rt, &hub.table, hub.gauge, &hub.lines)?;
+    withdrawn(&rt, &mut hub)?;
     spent(&rt, &mut hub)?;
     sums(&rt)?;
     entries(&rt)?;

@@ -29,6 +29,7 @@ enum Kind {
     Update,
     Fill,
     Age,
+    Withdraw,
 }
 
 impl TryFrom<u8> for Kind {
@@ -42,6 +43,7 @@ impl TryFrom<u8> for Kind {
             2 => Ok(Kind::Update),
             3 => Ok(Kind::Fill),
             4 => Ok(Kind::Age),
+            5 => Ok(Kind::Withdraw),
             _ => Err(Refusal::UnknownForm),
         }
     }
@@ -79,6 +81,7 @@ fn whole_entry(bytes: &[u8; ENTRY_SIZE], picture: usize) -> Result<Entry, Refusa
             ticket,
         }),
         Kind::Age if bare && weight == 0 && key == 0 => Ok(Entry::Age),
+        Kind::Withdraw if bare && weight == 0 => Ok(Entry::Withdraw { key }),
         _ => Err(Refusal::UnknownForm),
     }
 }

@@ -1,12 +1,13 @@
-// Which records are on lines: a record takes a line that is free or a colder one's, and a cooled one is demoted for a hotter. Whoever
-// takes a line, or keeps it through an update, gets a new ticket.
+// Which records are on lines: a record takes a line that is free or a colder one's, a cooled one is demoted for a hotter, and that of a
+// withdrawn class goes to the hottest. Whoever takes a line, or keeps it through an update, gets a new ticket.
 #![tactic(auto)]
 
 ghost use Rattle.std.specs.Prelude.{◌≡◌, true, ◌<◌, ◌^◌};
 ghost use Rattle.rules.specs.Bytes.{record_at, record_count};
+ghost use Rattle.rules.specs.declared.Record.{Record};
 ghost use Rattle.rules.specs.Table.{is_lined, empty_state};
 ghost use Rattle.rules.specs.Calls.{serial_limit, memory, SameLent};
-ghost use Rattle.rules.specs.Steps.{next_ticket, ticketed, renew, give_line, hand_over, admit, demote};
+ghost use Rattle.rules.specs.Steps.{next_ticket, ticketed, renew, give_line, hand_on, hand_over, admit, demote, vacate};
 ghost use Rattle.lines.specs.Room.{LinesFit, HeatsBelow};
 
 use fields::{is_lined, line_of, on_empty_line, unlined};
@@ -41,8 +42,10 @@ fn renew(hub: &mut Hub, i: usize)
     change_record(hub.table, i, |r| Record { ticket, ..r });
 }
 
-// The record at place i takes a line, empty, with a new ticket.
+// The record at place i takes a line, empty, with a new ticket. (Not inlined: it is rarely run, and the loops of those who call it have
+// better places in memory without it.)
 #[tactic(auto, unfolding(rules::specs::Table::empty_state, rules::specs::Steps::give_line, rules::specs::Steps::ticketed, rules::specs::Table::write, rules::specs::Table::with_table, rules::specs::Table::with_gauge, rules::specs::Table::places))]
+#[inline(never)]
 fn give_line(hub: &mut Hub, i: usize, line: usize)
     requires { (i < record_count hub.old.table.now) × (empty_state line < 2 ^ 64) × (hub.old.gauge.now.serial < serial_limit) }
     ensures same_lent { SameLent hub.old hub.new }
@@ -52,18 +55,29 @@ fn give_line(hub: &mut Hub, i: usize, line: usize)
     change_record(hub.table, i, |r| on_empty_line(line, ticket, r));
 }
 
-// A record gives its line to another.
-#[tactic(auto, unfolding(rules::specs::Bytes::record_count, rules::specs::Table::is_lined, rules::specs::Table::line_of, rules::specs::Table::empty_state, rules::specs::Steps::hand_over, rules::specs::Table::write, rules::specs::Table::with_table, rules::specs::Table::places))]
+// A record becomes one without a line, and its line goes to another.
+#[tactic(auto, unfolding(rules::specs::Bytes::record_count, rules::specs::Table::is_lined, rules::specs::Table::line_of, rules::specs::Table::empty_state, rules::specs::Steps::hand_on, rules::specs::Table::write, rules::specs::Table::with_table, rules::specs::Table::places))]
+fn hand_on(hub: &mut Hub, from: usize, left: Record, to: usize)
+    requires { (from < record_count hub.old.table.now) × (to < record_count hub.old.table.now) × (is_lined (record_at hub.old.table.now from) ≡ true) × (hub.old.gauge.now.serial < serial_limit) }
+    ensures same_lent { SameLent hub.old hub.new }
+    ensures memory { memory hub.new ≡ hand_on (memory hub.old) from left to }
+{
+    let table = &mut *hub.table;
+    let line = line_of(record_at(table, from));
+    put_record(table, from, left);
+    give_line(hub, to, line)
+}
+
+// A record gives its line to another, and stays tracked.
+#[tactic(auto, unfolding(rules::specs::Steps::hand_over, rules::specs::Table::places))]
 fn hand_over(hub: &mut Hub, from: usize, to: usize)
     requires { (from < record_count hub.old.table.now) × (to < record_count hub.old.table.now) × (is_lined (record_at hub.old.table.now from) ≡ true) × (hub.old.gauge.now.serial < serial_limit) }
     ensures same_lent { SameLent hub.old hub.new }
     ensures memory { memory hub.new ≡ hand_over (memory hub.old) from to }
 {
     let table = &mut *hub.table;
-    let r = record_at(table, from);
-    let line = line_of(r);
-    put_record(table, from, unlined(r));
-    give_line(hub, to, line)
+    let left = unlined(record_at(table, from));
+    hand_on(hub, from, left, to)
 }
 
 // Step 5: the record at place i gets a line if one is unused, or if it is hotter than the coldest on a line.
@@ -91,7 +105,7 @@ pub fn admit(hub: &mut Hub, i: usize)
 }
 
 // The record at place i keeps its line unless the hottest record without one is hotter.
-#[tactic(auto, unfolding(rules::specs::Steps::demote, rules::specs::Table::places, rules::specs::Table::size, rules::specs::Steps::demote_for, rules::specs::Table::line_of, rules::specs::Table::line_total, rules::specs::Table::hotter))]
+#[tactic(auto, unfolding(rules::specs::Steps::demote, rules::specs::Table::places, rules::specs::Table::size, rules::specs::Steps::demote_for, rules::specs::Table::line_of, rules::specs::Table::line_total, rules::specs::Table::hotter), using(rules::proofs::Finds::hottest_inside))]
 pub fn demote(hub: &mut Hub, i: usize)
     requires { (i < record_count hub.old.table.now) × (hub.old.gauge.now.serial < serial_limit) }
     ensures same_lent { SameLent hub.old hub.new }
@@ -105,5 +119,23 @@ pub fn demote(hub: &mut Hub, i: usize)
     match hottest_unlined(table) {
         Some((j, s)) if r.heat < s.heat => hand_over(hub, i, j),
         _ => renew(hub, i),
+    }
+}
+
+// The record at place i is freed. A line that it had goes to the hottest record without one, or becomes unused.
+#[tactic(auto, unfolding(rules::specs::Steps::vacate, rules::specs::Steps::vacate_for, rules::specs::Table::freed, rules::specs::Table::write, rules::specs::Table::with_table, rules::specs::Table::places, rules::specs::Table::size), using(rules::proofs::Finds::hottest_inside))]
+pub fn vacate(hub: &mut Hub, i: usize)
+    requires { (i < record_count hub.old.table.now) × (hub.old.gauge.now.serial < serial_limit) }
+    ensures same_lent { SameLent hub.old hub.new }
+    ensures memory { memory hub.new ≡ vacate (memory hub.old) i }
+{
+    let table = &mut *hub.table;
+    let freed = Record::default();
+    if is_lined(record_at(table, i))
+        && let Some((j, _)) = hottest_unlined(table)
+    {
+        hand_on(hub, i, freed, j);
+    } else {
+        put_record(table, i, freed);
     }
 }

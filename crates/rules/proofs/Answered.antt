@@ -16,13 +16,13 @@ use Rattle.rules.specs.Answers.{Completion}
 use Rattle.std.specs.Prelude.{Ok, Err}
 use Rattle.rules.specs.Pass.{Found}
 use Rattle.std.specs.Prelude.{Some, None}
-use Rattle.rules.specs.declared.Answer.TheVariants.{Aged, Changed, Unknown, Stored, Passed, Hit, Wanted}
+use Rattle.rules.specs.declared.Answer.TheVariants.{Aged, Changed, Unknown, Stored, Passed, Withdrawn, Hit, Wanted}
 use Rattle.rules.specs.Bytes.{IsBytes, number_size, get64, line_count}
 use Rattle.std.specs.Prelude.{if◌then◌else◌}
 use Rattle.rules.specs.Table.{Memory, is_tracked, is_lined, is_filled, line_of, empty_state, with_state, with_ticket, heated, aged_record, half_down, new_record, unlined, on_empty_line, has_key, key_record, free_record, victim, hotter, coldest_lined, lowest_unused, most_total, places, size, line_total, with_table, with_gauge, write}
 use Rattle.rules.specs.Answers.{Reply, answer_number, number_of, is_refused, Told, Said, said, values_of, answer_said}
 use Rattle.rules.specs.Refusals.{number}
-use Rattle.rules.specs.Steps.{Outcome, aged_gauge, aged, next_ticket, ticketed, give_line, hand_over, decay_for, grown, track, raised, evict, replace_coldest, promote, admit, read_answer, admission, place, read_counted, warm_steps, peek_answer, peek_steps, read_steps}
+use Rattle.rules.specs.Steps.{Outcome, aged_gauge, aged, next_ticket, ticketed, give_line, hand_on, hand_over, decay_for, grown, track, raised, evict, replace_coldest, promote, admit, read_answer, admission, place, read_counted, warm_steps, peek_answer, peek_steps, read_steps}
 use Rattle.rules.specs.Calls.{most_weight, serial_limit, order_good, verdict, unless, leaving, read_verdict, read_outcome, held, gauge_test, hosted, HostRead, number_test, put_ticket, hosted_read, exported_read}
 use Rattle.rules.specs.Numbers.{refusal, standing, read_said, NamesLine, TellsLine}
 use Rattle.rules.specs.Replay.{at}
@@ -157,7 +157,7 @@ module _ (m : Memory) (i : ℕ) (h : Lines m) (room : m.gauge.serial < serial_li
 
   -- the other record gives its line up first
   admits_hand : (j : ℕ) → j < size m → 1 < (places m j).state → Admits m (hand_over m j i) i
-  unfolding hand_over unlined line_of write with_table line_total
+  unfolding hand_over hand_on unlined line_of write with_table line_total
   admits_hand j j-inside lined =
       let r : Record = unlined (places m j) in
       let is : IsRecord r = unlined_is (places m j) (at_is m j h.bytes) in
@@ -385,6 +385,7 @@ number_tells c (Ok Changed) bytes names told holds = small_tells c (Ok Changed) 
 number_tells c (Ok Unknown) bytes names told holds = small_tells c (Ok Unknown) 102 bytes (omega arith)
 number_tells c (Ok Stored) bytes names told holds = small_tells c (Ok Stored) 103 bytes (omega arith)
 number_tells c (Ok Passed) bytes names told holds = small_tells c (Ok Passed) 104 bytes (omega arith)
+number_tells c (Ok Withdrawn) bytes names told holds = small_tells c (Ok Withdrawn) 105 bytes (omega arith)
 number_tells c (Ok (Hit n)) bytes names told holds =
     let (below, few) = names.hit n refl in
     let same : 2000 + n - 2000 ≡ n = omega arith in

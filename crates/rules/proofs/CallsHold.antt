@@ -13,9 +13,9 @@ use Rattle.std.specs.Prelude.{Some, None}
 use Rattle.rules.specs.Bytes.{IsBytes, line_at}
 use Rattle.std.specs.Prelude.{if◌then◌else◌}
 use Rattle.rules.specs.Table.{Memory, is_lined, line_of, empty_state, filled_state, with_state, with_ticket, with_serial, unlined, on_empty_line, lowest_unused, is_used, coldest_lined, hottest_unlined, hotter, places, size, line_total, with_table, with_gauge, write}
-use Rattle.rules.specs.Steps.{aged_gauge, aged, next_ticket, ticketed, renew, give_line, hand_over, replace_coldest, promote, admit, demote_for, demote}
+use Rattle.rules.specs.Steps.{aged_gauge, aged, next_ticket, ticketed, renew, give_line, hand_on, hand_over, replace_coldest, promote, admit, demote_for, demote}
 use Rattle.rules.specs.Calls.{serial_limit, sizes_good}
-use Rattle.rules.specs.Replay.{Truth, at, age_truth, update_stale}
+use Rattle.rules.specs.Replay.{Truth, at, age_truth, make_stale}
 use Rattle.rules.proofs.Places.{IsRecord, record_at_is}
 use Rattle.rules.proofs.Searches.{clash, lowest_fails, lowest_before}
 use Rattle.rules.proofs.Finds.{IsAt, coldest_found, coldest_missing, hottest_found, hottest_missing}
@@ -25,7 +25,7 @@ use Rattle.rules.proofs.Shown.{put_shows, stale_shows}
 use Rattle.rules.proofs.SameLines.{SameLine, same_line_itself, same_lines_full}
 use Rattle.rules.proofs.Memories.{places_write, size_write, sizes_write, bytes_write, sizes_say, places_aged, size_aged, sizes_aged, bytes_aged}
 use Rattle.rules.proofs.AgeKeeps.{age_tracks, age_shows, age_full, age_hottest}
-use Rattle.rules.proofs.LineKeeps.{renew_tracks, give_tracks, give_full, give_hottest, handed, hand_tracks, hand_full, take_hottest, demote_hottest}
+use Rattle.rules.proofs.LineKeeps.{renew_tracks, give_tracks, give_full, give_hottest, all_used, handed, Off, unlined_off, unlined_tracks, hand_tracks, hand_full, take_hottest, demote_hottest}
 
 -- ---- age
 pub age_holds : (m : Memory) (t : Truth) (stale : ℕ → ℕ) → Holds m t stale → Holds (aged m) (age_truth t) stale
@@ -139,78 +139,92 @@ module _ (m : Memory) (t : Truth) (stale : ℕ → ℕ) (few : m.gauge.serial < 
       (next_shows f i r unfilled refl h.shows)
       full hottest
 
-  -- ---- a line is handed over
-  module _ (a b : ℕ) (bytes : IsBytes m.table) (a-inside : a < size m) (b-inside : b < size m)
-      (lined : 1 < (places m a).state) (waits : (places m b).state ≡ 1) (low : line_of (places m a) < 1024) where
+  -- ---- a line is handed on
+  module _ (a b : ℕ) (left : Record) (off : Off left) (is : IsRecord left) (bytes : IsBytes m.table) (a-inside : a < size m)
+      (b-inside : b < size m) (lined : 1 < (places m a).state) (waits : (places m b).state ≡ 1) (low : line_of (places m a) < 1024) where
     apart : b ≢ a
     apart e = let same : (places m a).state ≡ 1 = rw (← e) waits in omega arith
 
-    pub places_hand : places (hand_over m a b) ≡ handed (places m) (next_ticket m) a b
-    unfolding hand_over give_line ticketed next_ticket with_gauge write with_table places size
+    pub places_hand : places (hand_on m a left b) ≡ handed (places m) (next_ticket m) a left b
+    unfolding hand_on give_line ticketed next_ticket with_gauge write with_table places size
     places_hand =
-        let r = unlined (places m a) in
-        let m' = write m a r in
-        let e : places m' ≡ at a r (places m) = places_write m a r a-inside (unlined_is (places m a) (at_is m a bytes)) in
-        let same : places m' b ≡ places m b = ap (λ (f : ℕ → Record). f b) e ∙ at_other a b r (places m) apart in
-        let inside : b < size m' = rw (size_write m a r) b-inside in
+        let m' = write m a left in
+        let e : places m' ≡ at a left (places m) = places_write m a left a-inside is in
+        let same : places m' b ≡ places m b = ap (λ (f : ℕ → Record). f b) e ∙ at_other a b left (places m) apart in
+        let inside : b < size m' = rw (size_write m a left) b-inside in
         let line = line_of (places m a) in
         places_write (ticketed m') b (on_empty_line line (next_ticket m) (places m' b)) inside
-        (on_line_is (places m' b) line (next_ticket m) (at_is m' b (bytes_write m a r bytes)) low next_fits)
+        (on_line_is (places m' b) line (next_ticket m) (at_is m' b (bytes_write m a left bytes)) low next_fits)
         ∙ ap (λ (q : Record). at b (on_empty_line line (next_ticket m) q) (places m')) same
         ∙ ap (at b (on_empty_line line (next_ticket m) (places m b))) e
 
-    pub size_hand : size (hand_over m a b) ≡ size m
-    unfolding hand_over give_line ticketed with_gauge size
+    pub size_hand : size (hand_on m a left b) ≡ size m
+    unfolding hand_on give_line ticketed with_gauge size
     size_hand = size_write _ b _ ∙ size_write m a _
 
-    hand_sizes : sizes_good (hand_over m a b).table (hand_over m a b).lines ≡ sizes_good m.table m.lines
-    unfolding hand_over give_line ticketed with_gauge
+    hand_sizes : sizes_good (hand_on m a left b).table (hand_on m a left b).lines ≡ sizes_good m.table m.lines
+    unfolding hand_on give_line ticketed with_gauge
     hand_sizes = sizes_write _ b _ ∙ sizes_write m a _
 
-    hand_bytes : IsBytes (hand_over m a b).table
-    unfolding hand_over give_line ticketed with_gauge
+    hand_bytes : IsBytes (hand_on m a left b).table
+    unfolding hand_on give_line ticketed with_gauge
     hand_bytes = bytes_write _ b _ (bytes_write m a _ bytes)
 
-    hand_total : line_total (hand_over m a b) ≡ line_total m
-    unfolding hand_over give_line ticketed with_gauge write with_table line_total
+    hand_total : line_total (hand_on m a left b) ≡ line_total m
+    unfolding hand_on give_line ticketed with_gauge write with_table line_total
     hand_total = refl
 
-    hand_gauge : (hand_over m a b).gauge ≡ with_serial (next_ticket m) m.gauge
-    unfolding hand_over give_line ticketed next_ticket with_gauge write with_table
+    hand_gauge : (hand_on m a left b).gauge ≡ with_serial (next_ticket m) m.gauge
+    unfolding hand_on give_line ticketed next_ticket with_gauge write with_table
     hand_gauge = refl
 
-    hand_lines : (hand_over m a b).lines ≡ m.lines
-    unfolding hand_over give_line ticketed with_gauge write with_table
+    hand_lines : (hand_on m a left b).lines ≡ m.lines
+    unfolding hand_on give_line ticketed with_gauge write with_table
     hand_lines = refl
 
     hand_shows : Shows (places m) (size m) m.gauge.serial (line_at m.lines) t.picture stale →
-        Shows (handed (places m) (next_ticket m) a b) (size m) (next_ticket m) (line_at m.lines) t.picture stale
-    unfolding unlined on_empty_line empty_state filled_state
+        Shows (handed (places m) (next_ticket m) a left b) (size m) (next_ticket m) (line_at m.lines) t.picture stale
+    unfolding on_empty_line empty_state filled_state
     hand_shows s =
-        next_shows (at a (unlined (places m a)) (places m)) b (on_empty_line (line_of (places m a)) (next_ticket m) (places m b))
+        next_shows (at a left (places m)) b (on_empty_line (line_of (places m a)) (next_ticket m) (places m b))
         (λ line e. omega arith) refl
-        (put_shows (places m) (size m) m.gauge.serial (line_at m.lines) t.picture stale s a m.gauge.serial
-        (unlined (places m a)) (omega arith) (λ line e. absurd (omega arith)) (omega arith) (λ l. absurd (omega arith)))
+        (put_shows (places m) (size m) m.gauge.serial (line_at m.lines) t.picture stale s a m.gauge.serial left (omega arith)
+        (λ line e. absurd (omega (arith, off.state))) (omega (arith, off.ticket)) (λ l. absurd (omega (arith, off.state))))
 
-    hand_kept : sizes_good m.table m.lines ≡ true → Tracks (places m) (size m) (line_total m) m.gauge t →
+    pub hand_kept : sizes_good m.table m.lines ≡ true → (was : Truth) → Tracks (places m) (size m) (line_total m) m.gauge was →
+        Tracks (at a left (places m)) (size m) (line_total m) m.gauge t →
         Shows (places m) (size m) m.gauge.serial (line_at m.lines) t.picture stale →
-        Full (handed (places m) (next_ticket m) a b) (size m) (line_total m) → Hottest (handed (places m) (next_ticket m) a b) (size m) →
-        Holds (hand_over m a b) t stale
-    hand_kept sizes tracks shows full hottest =
+        Full (handed (places m) (next_ticket m) a left b) (size m) (line_total m) →
+        Hottest (handed (places m) (next_ticket m) a left b) (size m) → Holds (hand_on m a left b) t stale
+    hand_kept sizes was before without shows full hottest =
         record {
           sizes = hand_sizes ∙ sizes;
           bytes = hand_bytes;
           serial_fits = rw hand_gauge next_fits;
           tracks =
               rw (places_hand, size_hand, hand_total, hand_gauge)
-              (hand_tracks (places m) (size m) (line_total m) (next_ticket m) a b a-inside b-inside lined waits m.gauge t tracks);
+              (hand_tracks (places m) (size m) (next_ticket m) a b left off a-inside b-inside lined waits (line_total m) m.gauge t was
+              before without);
           shows = rw (places_hand, size_hand, hand_gauge, hand_lines) (hand_shows shows);
           full = rw (places_hand, size_hand, hand_total) full;
           hottest = rw (places_hand, size_hand) hottest;
         }
 
+  -- the record that gives it stays tracked
+  hand_over_kept : (a b : ℕ) → sizes_good m.table m.lines ≡ true → IsBytes m.table → a < size m → b < size m →
+      1 < (places m a).state → (places m b).state ≡ 1 → line_of (places m a) < 1024 →
+      Tracks (places m) (size m) (line_total m) m.gauge t →
+      Shows (places m) (size m) m.gauge.serial (line_at m.lines) t.picture stale →
+      Full (handed (places m) (next_ticket m) a (unlined (places m a)) b) (size m) (line_total m) →
+      Hottest (handed (places m) (next_ticket m) a (unlined (places m a)) b) (size m) → Holds (hand_over m a b) t stale
+  unfolding hand_over
+  hand_over_kept a b sizes bytes a-inside b-inside lined waits low tracks =
+      hand_kept a b (unlined (places m a)) (unlined_off (places m a)) (unlined_is (places m a) (at_is m a bytes)) bytes a-inside b-inside
+      lined waits low sizes t tracks
+      (unlined_tracks (places m) (size m) (line_total m) a a-inside lined m.gauge t tracks)
+
 -- ---- step 5
-line_few : (m : Memory) (t : Truth) (i : ℕ) → sizes_good m.table m.lines ≡ true →
+pub line_few : (m : Memory) (t : Truth) (i : ℕ) → sizes_good m.table m.lines ≡ true →
     Tracks (places m) (size m) (line_total m) m.gauge t → i < size m → line_of (places m i) < 1024
 unfolding line_of
 line_few m t i sizes tracks inside = omega (arith, tracks.state_most i inside, lines_few m sizes)
@@ -246,12 +260,11 @@ replace_holds m t stale i few h inside waits used (Some (j, r)) e = go (ltb r.he
     go true hot =
         let f = places m in
         let n = size m in
-        let c = line_total m in
         let hotter : (f j).heat < (f i).heat = omega (arith, ltb-true r.heat (f i).heat hot, cooler) in
-        hand_kept m t stale few j i h.bytes found.inside inside lined waits
-        (line_few m t j h.sizes h.tracks found.inside) h.sizes h.tracks h.shows
-        (hand_full f n c (next_ticket m) j i found.inside inside lined waits used)
-        (take_hottest f n c (next_ticket m) j i found.inside inside lined waits h.hottest found.has.1 hotter)
+        hand_over_kept m t stale few j i h.sizes h.bytes found.inside inside lined waits
+        (line_few m t j h.sizes h.tracks found.inside) h.tracks h.shows
+        (hand_full f n (next_ticket m) j i (unlined (f j)) (unlined_off (f j)) found.inside inside lined waits (line_total m) used)
+        (take_hottest f n (next_ticket m) j i found.inside inside lined waits hotter h.hottest found.has.1)
     go false cold =
         record {
           sizes = h.sizes;
@@ -362,7 +375,7 @@ module _ (m : Memory) (t : Truth) (stale : ℕ → ℕ) (i : ℕ) (h : HoldsOver
 -- the tickets up to the serial that an update found become stale for its class, which is off the lines or has got a later one
 staled : (m : Memory) (t : Truth) (stale : ℕ → ℕ) (i found : ℕ) (r : Record) → places m i ≡ r → 0 < r.state →
     (1 < r.state → found < r.ticket) → i < size m → found ≤ m.gauge.serial → Holds m t stale →
-    Holds m t (update_stale stale r.key found)
+    Holds m t (make_stale stale r.key found)
 staled m t stale i found r is tracked later inside most h =
     record {
       sizes = h.sizes;
@@ -378,10 +391,26 @@ staled m t stale i found r is tracked later inside most h =
       hottest = h.hottest;
     }
 
+-- or it is not in the table
+pub staled_missing : (m : Memory) (t : Truth) (stale : ℕ → ℕ) (key found : ℕ) → found ≤ m.gauge.serial →
+    ((j : ℕ) → j < size m → 0 < (places m j).state → (places m j).key ≢ key) → Holds m t stale → Holds m t (make_stale stale key found)
+staled_missing m t stale key found most missing h =
+    record {
+      sizes = h.sizes;
+      bytes = h.bytes;
+      serial_fits = h.serial_fits;
+      tracks = h.tracks;
+      shows =
+          stale_shows (places m) (size m) m.gauge.serial (line_at m.lines) t.picture stale h.shows key found most
+          (λ j inside lined e. absurd (missing j inside (omega arith) e));
+      full = h.full;
+      hottest = h.hottest;
+    }
+
 module _ (m : Memory) (t : Truth) (stale : ℕ → ℕ) (i : ℕ) (few : m.gauge.serial < serial_limit) (h : HoldsOver i m t stale)
     (inside : i < size m) (tracked : 0 < (places m i).state) (unfilled : (line : ℕ) → (places m i).state ≢ filled_state line) where
   abbrev stale_after : ℕ → ℕ
-  stale_after = update_stale stale (places m i).key m.gauge.serial
+  stale_after = make_stale stale (places m i).key m.gauge.serial
 
   -- it keeps its line
   keeps : 1 < (places m i).state → ((j : ℕ) → j < size m → (places m j).state ≡ 1 → (places m j).heat ≤ (places m i).heat) →
@@ -399,28 +428,25 @@ module _ (m : Memory) (t : Truth) (stale : ℕ → ℕ) (i : ℕ) (few : m.gauge
   yields : 1 < (places m i).state → (j : ℕ) → j < size m → (places m j).state ≡ 1 →
       ((k : ℕ) → k < size m → (places m k).state ≡ 1 → (places m k).heat ≤ (places m j).heat) →
       (places m i).heat < (places m j).heat → Holds (hand_over m i j) t stale_after
-  unfolding unlined
+  unfolding hand_over unlined
   yields lined j j-inside waits hottest hotter =
       let f = places m in
       let n = size m in
-      let c = line_total m in
       let ticket = next_ticket m in
       let low = line_few m t i h.sizes h.tracks inside in
+      let left = unlined (f i) in
+      let off = unlined_off (f i) in
+      let is = unlined_is (f i) (at_is m i h.bytes) in
       let other : i ≢ j = λ e. omega (arith, rw e at lined) in
       staled (hand_over m i j) t stale i m.gauge.serial (unlined (f i))
-      (ap (λ (g : ℕ → Record). g i) (places_hand m t stale few i j h.bytes inside j-inside lined waits low)
+      (ap (λ (g : ℕ → Record). g i) (places_hand m t stale few i j left off is h.bytes inside j-inside lined waits low)
       ∙ at_other j i _ _ other ∙ at_same i (unlined (f i)) f)
       (omega arith) (λ l. absurd (omega arith))
-      (rw (size_hand m t stale few i j h.bytes inside j-inside lined waits low) inside)
-      (rw (hand_gauge m t stale few i j h.bytes inside j-inside lined waits low) (next_over m t stale few))
-      (hand_kept m t stale few i j h.bytes inside j-inside lined waits low h.sizes h.tracks h.shows
-      (hand_full f n c ticket i j inside j-inside lined waits (λ line below. used line below (is_used f n line) refl))
-      (demote_hottest f n c ticket i j inside j-inside lined waits h.hottest hottest hotter))
-    where
-      -- one waits, so every line is used
-      used : (line : ℕ) → line < line_total m → (b : Bool) → is_used (places m) (size m) line ≡ b → b ≡ true
-      used line below true e = refl
-      used line below false e = absurd (h.full.none_waits line below e j j-inside waits)
+      (rw (size_hand m t stale few i j left off is h.bytes inside j-inside lined waits low) inside)
+      (rw (hand_gauge m t stale few i j left off is h.bytes inside j-inside lined waits low) (next_over m t stale few))
+      (hand_over_kept m t stale few i j h.sizes h.bytes inside j-inside lined waits low h.tracks h.shows
+      (hand_full f n ticket i j left off inside j-inside lined waits (line_total m) (all_used f n (line_total m) h.full j j-inside waits))
+      (demote_hottest f n ticket i j inside j-inside lined waits hotter h.hottest hottest))
 
   demote_for_holds : 1 < (places m i).state → (x : Found) → hottest_unlined (places m) (size m) ≡ x → Holds (demote_for m i x) t stale_after
   unfolding demote_for hotter

@@ -14,7 +14,7 @@ use Rattle.rules.specs.declared.Refusal.TheVariants.{WrongSizes, WrongWeight, No
 use Rattle.std.specs.Prelude.{Ok, Err}
 use Rattle.rules.specs.Bytes.{record_size, record_count, line_size, line_count, put_record}
 use Rattle.rules.specs.Table.{Memory, is_lined, record_in_order}
-use Rattle.rules.specs.Calls.{most_weight, serial_limit, lent, sizes_good, read_weight_good, update_weight_good, picture_good, serial_good, must, verdict, sizes_test, order_test, serial_test, plain_verdict, read_verdict, update_verdict, fill_verdict, read_outcome, fill_outcome}
+use Rattle.rules.specs.Calls.{most_weight, serial_limit, lent, sizes_good, read_weight_good, update_weight_good, picture_good, serial_good, must, verdict, sizes_test, order_test, serial_test, plain_verdict, read_verdict, update_verdict, fill_verdict, withdraw_verdict, read_outcome, fill_outcome, withdraw_outcome}
 use Rattle.rules.specs.Sample.{gauge_of, numbers, sample_picture}
 use Rattle.rules.proofs.Computing.{computing}
 use Rattle.rules.proofs.Verdicts.{plain_accepted}
@@ -133,19 +133,22 @@ unfolding computing
 any_serial = refl
 
 -- ---- | 10, a read over 0, update or fill when the serial is 9,223,372,036,854,775,808 or more (document 02)
+-- and a withdrawal
 pub last_serial_passes :
     (read_verdict (at_serial 9223372036854775807) 1 ≡ Ok tt)
     × (update_verdict (at_serial 9223372036854775807) 1 ≡ Ok tt)
     × (fill_verdict (at_serial 9223372036854775807) (sample_picture 0) ≡ Ok tt)
+    × (withdraw_verdict (at_serial 9223372036854775807) ≡ Ok tt)
 unfolding computing
-last_serial_passes = (refl, refl, refl)
+last_serial_passes = (refl, refl, refl, refl)
 
 pub serial_refused :
     (read_verdict (at_serial 9223372036854775808) 1 ≡ Err SerialSpent)
     × (update_verdict (at_serial 9223372036854775808) 1 ≡ Err SerialSpent)
     × (fill_verdict (at_serial 9223372036854775808) (sample_picture 0) ≡ Err SerialSpent)
+    × (withdraw_verdict (at_serial 9223372036854775808) ≡ Err SerialSpent)
 unfolding computing
-serial_refused = (refl, refl, refl)
+serial_refused = (refl, refl, refl, refl)
 
 pub most_serial_refused : read_verdict (at_serial 18446744073709551615) 65535 ≡ Err SerialSpent
 unfolding computing
@@ -183,8 +186,22 @@ pub order_before_serial :
     (read_verdict (holding (numbers 7 0 0 4 5) 9223372036854775808) 1 ≡ Err NotInOrder)
     × (update_verdict (holding (numbers 7 0 0 4 5) 9223372036854775808) 1 ≡ Err NotInOrder)
     × (fill_verdict (holding (numbers 7 0 0 4 5) 9223372036854775808) (sample_picture 0) ≡ Err NotInOrder)
+    × (withdraw_verdict (holding (numbers 7 0 0 4 5) 9223372036854775808) ≡ Err NotInOrder)
 unfolding computing
-order_before_serial = (refl, refl, refl)
+order_before_serial = (refl, refl, refl, refl)
+
+-- | refusals 1, 3 and 10 apply (document 02)
+-- one record that is not in order with a line too many, and no serial left
+pub sizes_before_order :
+    withdraw_verdict (lent (put_record (replicate record_size 0) 0 (numbers 7 0 0 9 5)) (gauge_of 0 0 9223372036854775808) (replicate line_size 0))
+    ≡ Err WrongSizes
+unfolding computing
+sizes_before_order = refl
+
+-- and all before the key is looked for
+pub serial_before_unknown : (withdraw_outcome (at_serial 9223372036854775808) 9).answer ≡ Err SerialSpent
+unfolding computing
+serial_before_unknown = refl
 
 pub serial_before_line : (fill_outcome (at_serial 9223372036854775808) 9 (sample_picture 0) 5).answer ≡ Err SerialSpent
 unfolding computing
@@ -228,8 +245,11 @@ ticket_off_line total lines r off some-ticket = rw (le-ltb 1 r.state off, ne_eqb
 -- where no other test fails
 pub spent_everywhere : (m : Memory) (w : ℕ) (picture : List ℕ) → plain_verdict m ≡ Ok tt → 9223372036854775808 ≤ m.gauge.serial →
     0 < w → w ≤ 65535 → length picture ≡ 64 →
-    (read_verdict m w ≡ Err SerialSpent) × (update_verdict m w ≡ Err SerialSpent) × (fill_verdict m picture ≡ Err SerialSpent)
-unfolding read_verdict update_verdict fill_verdict read_weight_good update_weight_good picture_good serial_good sizes_test order_test serial_test verdict
+    (read_verdict m w ≡ Err SerialSpent)
+    × (update_verdict m w ≡ Err SerialSpent)
+    × (fill_verdict m picture ≡ Err SerialSpent)
+    × (withdraw_verdict m ≡ Err SerialSpent)
+unfolding read_verdict update_verdict fill_verdict withdraw_verdict read_weight_good update_weight_good picture_good serial_good sizes_test order_test serial_test verdict
 spent_everywhere m w picture accepted spent weighs light whole =
     let good = plain_accepted m accepted in
     let high = le-ltb m.gauge.serial serial_limit spent in
@@ -237,4 +257,5 @@ spent_everywhere m w picture accepted spent weighs light whole =
       rw (good.sizes, good.order, low, ne_eqb w 0 (omega arith), high),
       rw (good.sizes, good.order, le-leb 1 w weighs, low, high),
       rw (good.sizes, good.order, eq-eqb (length picture) line_size whole, high),
+      rw (good.sizes, good.order, high),
     )

@@ -1,6 +1,7 @@
 -- Closed examples that hold the definitions where no law and none of the paper's examples would notice: each is run. Assumes nothing.
 use Prim.Native.Nat.{ℕ, zero, suc, ◌+◌, ◌*◌, ◌^◌, ◌≤◌}
 use mathlib.Core.Path.{◌≡◌, refl, ap}
+use mathlib.Core.Logic.{◌≢◌}
 use mathlib.Core.Option.{none, some}
 use mathlib.Core.List.{List, [], ◌∷◌, ◌++◌}
 use native.Mathlib.Omega.{arith}
@@ -8,20 +9,24 @@ use lib.ListN.{get_or, replicate}
 use Rattle.rules.specs.declared.Record.{Record}
 use Rattle.rules.specs.declared.Gauge.{Gauge}
 use Rattle.rules.specs.declared.Answer.{Answer}
-use Rattle.rules.specs.declared.Answer.TheVariants.{Aged, Changed, Stored, Passed, Hit, Wanted}
+use Rattle.rules.specs.declared.Answer.TheVariants.{Aged, Changed, Stored, Passed, Withdrawn, Hit, Wanted}
+use Rattle.rules.specs.declared.Refusal.{Refusal}
 use Rattle.rules.specs.declared.Refusal.TheVariants.{WrongSizes, WrongWeight, NotInOrder, WrongPicture, NoLine, AlreadyFilled, UnknownForm, ShortEnd, StaleTicket, SerialSpent}
 use Rattle.rules.specs.Refusals.{number}
 use Rattle.rules.specs.declared.Entry.{Entry}
 use Rattle.rules.specs.Answers.{Reply}
-use Rattle.std.specs.Prelude.{Some, Ok, Err}
+use Rattle.std.specs.Prelude.{◌-◌, Bool, true, false, ◌&&◌, ◌||◌, leb, eqb, Option, Some, None, Result, Ok, Err}
 use Rattle.rules.specs.Bytes.{get64, record_size, put_record, line_size, put_gauge}
+use Rattle.rules.specs.Pass.{all_of}
 use Rattle.rules.specs.Table.{Memory, with_lines, key_record, places, size}
 use Rattle.rules.specs.Steps.{Outcome, outcome, GivesOne}
-use Rattle.rules.specs.Calls.{OfSizes, host_lent, HostRead, read_lent, exported, exported_read, plain_verdict, age_outcome, read_outcome, update_outcome, fill_outcome, levelled_outcome, show_line}
+use Rattle.rules.specs.Calls.{OfSizes, host_lent, HostMemory, HostRead, read_lent, exported, exported_read, plain_verdict, age_outcome, read_outcome, update_outcome, fill_outcome, withdraw_outcome, levelled_outcome, show_line}
 use Rattle.rules.specs.Answers.{said, values_of}
 use Rattle.rules.specs.Numbers.{NamesLine, TellsLine, key_said, read_said, standing, form_good, form_values, said_at}
-use Rattle.rules.specs.Journal.{decimal, printed, printed_all, journal_run, entry_at, decoded, stored_word, passed_word, hit_word, wanted_word}
+use Rattle.rules.specs.Journal.{decimal, printed, printed_all, journal_run, entry_at, decoded, unknown_word, stored_word, passed_word, withdrawn_word, hit_word, wanted_word, refused_word}
 use Rattle.rules.specs.Sample.{sample_entry, sample_journal, sample_start, sample_end, sample_picture, host_start, row, gauge_of, numbers, three_records}
+use Rattle.rules.specs.Replay.{Truth, withdraw_truth}
+use Rattle.rules.proofs.Changes.{at_same, at_other}
 use Rattle.rules.proofs.Computing.{computing}
 use Rattle.rules.proofs.Peek.{peek_shows}
 
@@ -201,6 +206,71 @@ pub others_unticketed :
 unfolding computing
 others_unticketed = (refl, refl, refl, refl)
 
+-- ---- withdrawals (document 02)
+abbrev zero_record : Record
+zero_record = numbers 0 0 0 0 0
+
+-- | frees its key's record. A line it had goes, empty and with a new ticket, to the hottest tracked record left without one
+-- a filled line, an empty one; of a class without a line and of an untracked one nothing else changes
+pub withdrawn_handed :
+    (withdraw_outcome (lined 39) 21 ≡ leaves Withdrawn zero_record (numbers 22 7 2 4 40) (numbers 23 10 3 2 36) (gauge_of 60 4 40))
+    × (withdraw_outcome (lined 39) 23 ≡ leaves Withdrawn (numbers 21 8 1 5 35) (numbers 22 7 2 2 40) zero_record (gauge_of 60 4 40))
+    × (withdraw_outcome (lined 39) 22 ≡ leaves Withdrawn (numbers 21 8 1 5 35) zero_record (numbers 23 10 3 2 36) (gauge_of 60 4 39))
+    × (withdraw_outcome (lined 39) 24 ≡ outcome (Ok Answer.Unknown) (lined 39))
+unfolding computing
+withdrawn_handed = (refl, refl, refl, refl)
+
+-- | the hottest .., first among equals
+-- the hottest comes last; the first of the equals has neither the least key nor the least slack
+pub withdrawn_to_hottest :
+    (withdraw_outcome (three_records (numbers 21 8 1 5 35) (numbers 22 6 0 1 0) (numbers 24 7 2 1 0) (gauge_of 60 4 39) 2) 21
+    ≡ leaves Withdrawn zero_record (numbers 22 6 0 1 0) (numbers 24 7 2 4 40) (gauge_of 60 4 40))
+    × (withdraw_outcome (three_records (numbers 21 8 1 5 35) (numbers 24 7 2 1 0) (numbers 22 7 1 1 0) (gauge_of 60 4 39) 2) 21
+    ≡ leaves Withdrawn zero_record (numbers 24 7 2 4 40) (numbers 22 7 1 1 0) (gauge_of 60 4 40))
+unfolding computing
+withdrawn_to_hottest = (refl, refl)
+
+-- however cold it is, and a free record before it gets none; also one that is hotter than the class withdrawn; and where the first of the
+-- equals has the least key and the least slack
+pub withdrawn_to_whoever :
+    (withdraw_outcome (three_records zero_record (numbers 21 8 1 5 35) (numbers 22 0 0 1 0) (gauge_of 60 4 39) 2) 21
+    ≡ leaves Withdrawn zero_record zero_record (numbers 22 0 0 4 40) (gauge_of 60 4 40))
+    × (withdraw_outcome (three_records (numbers 21 6 1 5 35) (numbers 22 7 2 1 0) (numbers 23 10 3 2 36) (gauge_of 60 4 39) 2) 21
+    ≡ leaves Withdrawn zero_record (numbers 22 7 2 4 40) (numbers 23 10 3 2 36) (gauge_of 60 4 40))
+    × (withdraw_outcome (three_records (numbers 21 8 1 5 35) (numbers 22 7 1 1 0) (numbers 24 7 2 1 0) (gauge_of 60 4 39) 2) 21
+    ≡ leaves Withdrawn zero_record (numbers 22 7 1 4 40) (numbers 24 7 2 1 0) (gauge_of 60 4 40))
+unfolding computing
+withdrawn_to_whoever = (refl, refl, refl)
+
+-- | or becomes unused
+-- and no ticket is given; a free record gets none
+pub withdrawn_unused :
+    (withdraw_outcome (three_records (numbers 0 0 0 0 0) (numbers 21 8 1 5 35) (numbers 23 10 3 2 36) (gauge_of 60 4 39) 2) 21
+    ≡ leaves Withdrawn zero_record zero_record (numbers 23 10 3 2 36) (gauge_of 60 4 39))
+    × (withdraw_outcome (three_records (numbers 0 0 0 0 0) (numbers 23 10 3 2 36) (numbers 0 0 0 0 0) (gauge_of 60 4 39) 2) 23
+    ≡ leaves Withdrawn zero_record zero_record zero_record (gauge_of 60 4 39))
+unfolding computing
+withdrawn_unused = (refl, refl)
+
+-- of a key with two records the first goes, and of a line with two records the one that is freed hands it on
+pub withdrawn_doubled :
+    (withdraw_outcome (three_records (numbers 21 8 1 5 35) (numbers 21 7 2 1 0) (numbers 23 10 3 2 36) (gauge_of 60 4 39) 2) 21
+    ≡ leaves Withdrawn zero_record (numbers 21 7 2 4 40) (numbers 23 10 3 2 36) (gauge_of 60 4 40))
+    × (withdraw_outcome (three_records (numbers 21 8 1 5 35) (numbers 22 7 2 1 0) (numbers 23 10 3 4 36) (gauge_of 60 4 39) 2) 21
+    ≡ leaves Withdrawn zero_record (numbers 22 7 2 4 40) (numbers 23 10 3 4 36) (gauge_of 60 4 40))
+unfolding computing
+withdrawn_doubled = (refl, refl)
+
+-- read again while the ceiling is over 0, the class gets heat ceiling + w and slack ceiling in its free record: without a line, and with
+-- the one that it had, which nobody waited for
+pub withdrawn_read_again :
+    (read_outcome (withdraw_outcome (lined 39) 22).after 22 2
+    ≡ leaves Passed (numbers 21 8 1 5 35) (numbers 22 6 4 1 0) (numbers 23 10 3 2 36) (gauge_of 62 4 39))
+    × (read_outcome (withdraw_outcome (three_records (numbers 21 8 1 5 35) (numbers 0 0 0 0 0) (numbers 23 10 3 2 36) (gauge_of 60 4 39) 2) 21).after 21 1
+    ≡ leaves (Wanted 1 40) (numbers 21 5 4 4 40) zero_record (numbers 23 10 3 2 36) (gauge_of 61 4 40))
+unfolding computing
+withdrawn_read_again = (refl, refl)
+
 -- ---- a host's read
 -- m as a C host lends it, with that many gauge bytes, and bytes for the ticket
 abbrev by_host : ℕ → Memory → List ℕ → HostRead
@@ -242,6 +312,37 @@ Refuses gauge ticket w number =
 pub host_refused : Refuses 24 8 65536 2 × Refuses 23 8 3 1 × Refuses 25 8 3 1 × Refuses 24 7 3 1 × Refuses 24 9 3 1 × Refuses 24 0 3 1
 unfolding computing
 host_refused = (refl, refl, refl, refl, refl, refl)
+
+-- | In the replay the class's true heat becomes 0. (Document 02)
+-- and nothing else: no other class's, not the total, no picture
+pub truth_withdrawn : (t : Truth) (key other : ℕ) → other ≢ key →
+    ((withdraw_truth t key).heat key ≡ 0)
+    × ((withdraw_truth t key).heat other ≡ t.heat other)
+    × ((withdraw_truth t key).total ≡ t.total)
+    × ((withdraw_truth t key).picture ≡ t.picture)
+unfolding withdraw_truth
+truth_withdrawn t key other apart = (at_same key 0 t.heat, at_other key other 0 t.heat apart, refl, refl)
+
+-- ---- a host's withdrawal
+abbrev withdrawing : ℕ → ℕ → Memory → Outcome ℕ HostMemory
+withdrawing key gauge m = exported (λ m. withdraw_outcome m key) (by_host gauge m []).memory
+
+-- | withdrawn (105 when exported), or unknown for an untracked key, and refusals 1, 3 and 10 apply
+pub host_withdrawn :
+    (withdrawing 21 24 (lined 39)
+    ≡ outcome 105 (by_host 24 (three_records zero_record (numbers 22 7 2 4 40) (numbers 23 10 3 2 36) (gauge_of 60 4 40) 2) []).memory)
+    × (withdrawing 24 24 (lined 39) ≡ outcome 102 (by_host 24 (lined 39) []).memory)
+    × (withdrawing 21 23 (lined 39) ≡ outcome 1 (by_host 23 (lined 39) []).memory)
+    × (withdrawing 21 24 (three_records (numbers 21 8 1 5 35) (numbers 22 7 2 1 9) (numbers 23 10 3 2 36) (gauge_of 60 4 39) 2)
+    ≡ outcome 3 (by_host 24 (three_records (numbers 21 8 1 5 35) (numbers 22 7 2 1 9) (numbers 23 10 3 2 36) (gauge_of 60 4 39) 2) []).memory)
+    × (withdrawing 24 24 (lined 9223372036854775808) ≡ outcome 10 (by_host 24 (lined 9223372036854775808) []).memory)
+unfolding computing
+host_withdrawn = (refl, refl, refl, refl, refl)
+
+-- and no value comes with these
+pub without_values : (values_of (Ok Withdrawn) ≡ []) × (values_of (Ok Changed) ≡ []) × (values_of (Ok Answer.Unknown) ≡ [])
+unfolding computing
+without_values = (refl, refl, refl)
 
 -- ---- what a wanted says, and how many tickets a call gives
 pub wanted_said : read_said (lined 39) 22 2 ≡ said (some 4001) (40 ∷ [])
@@ -323,8 +424,16 @@ pub fill_of_any_ticket : (a b c d e f g h : ℕ) →
 unfolding computing
 fill_of_any_ticket a b c d e f g h = refl
 
+-- | The journal kind is 5, in the form of an aging but with the key. (Document 02)
+pub withdrawal_by_bytes :
+    (entry_at ((5 ∷ replicate 7 0) ++ rising 1 8 ++ replicate 72 0) 0 ≡ decoded (Some (Ok (Entry.Withdraw 578437695752307201))) 88)
+    × (said_at ((5 ∷ replicate 7 0) ++ rising 1 8 ++ replicate 72 0) 0 ≡ said (some 5) (578437695752307201 ∷ []))
+    × (said_at ((5 ∷ replicate 87 0)) 0 ≡ said (some 5) (0 ∷ []))
+unfolding computing said_at form_good form_values
+withdrawal_by_bytes = (refl, refl, refl)
+
 -- passed over: a kind of 0; byte 1, byte 7 or the picture's last byte of a read; a fill's weight; an aging's weight or key; a
--- read's byte 87, an update's 83, an aging's 80
+-- read's byte 87, an update's 83, an aging's 80; a kind of 6
 abbrev Unknown : List ℕ → Type 0
 Unknown j = entry_at j 0 ≡ decoded (Some (Err UnknownForm)) 88
 
@@ -339,8 +448,21 @@ pub unknown_forms :
     × Unknown ((1 ∷ []) ++ replicate 86 0 ++ (1 ∷ []))
     × Unknown ((2 ∷ []) ++ replicate 82 0 ++ (1 ∷ []) ++ replicate 4 0)
     × Unknown ((4 ∷ []) ++ replicate 79 0 ++ (1 ∷ []) ++ replicate 7 0)
+    × Unknown ((6 ∷ []) ++ replicate 87 0)
 unfolding computing
-unknown_forms = (refl, refl, refl, refl, refl, refl, refl, refl, refl, refl)
+unknown_forms = (refl, refl, refl, refl, refl, refl, refl, refl, refl, refl, refl)
+
+-- of a withdrawal each byte that is not 0, but for the kind's and those of the key, 8 to 15
+abbrev is_seven : Option (Result Entry Refusal) → Bool
+is_seven (Some (Ok entry)) = false
+is_seven (Some (Err cause)) = eqb (number cause) 7
+is_seven None = false
+
+pub withdrawal_byte_by_byte :
+    all_of (λ n. (leb 7 n && leb n 14) || is_seven (entry_at ((5 ∷ []) ++ replicate n 0 ++ (1 ∷ []) ++ replicate (86 - n) 0) 0).entry) (λ n. n) 87
+    ≡ true
+unfolding computing
+withdrawal_byte_by_byte = refl
 
 -- | 8 now means 1 to 87 bytes left (document 02)
 pub short_end_stayed_at :
@@ -373,6 +495,27 @@ pub looks_printed :
     ∷ []
 unfolding computing
 looks_printed = refl
+
+-- of a class that is tracked, of one that is not any more, and one of unknown form
+pub withdrawals_printed :
+    (journal_run sample_start
+    (sample_entry 1 5 3 0 0
+    ++ sample_entry 5 5 0 0 0
+    ++ sample_entry 5 5 0 0 0
+    ++ sample_entry 5 5 0 9 0)).rows
+    ≡ row 1 wanted_word 3 0
+    ∷ row 2 withdrawn_word 3 0
+    ∷ row 3 unknown_word 3 0
+    ∷ row 4 (refused_word ++ decimal 7) 3 0
+    ∷ []
+unfolding computing
+withdrawals_printed = refl
+
+-- its word, letter by letter
+pub withdrawn_text : printed (row 2 withdrawn_word 3 0)
+    ≡ 50 ∷ 32 ∷ 119 ∷ 105 ∷ 116 ∷ 104 ∷ 100 ∷ 114 ∷ 97 ∷ 119 ∷ 110 ∷ 32 ∷ 51 ∷ 32 ∷ 48 ∷ 10 ∷ []
+unfolding computing printed
+withdrawn_text = refl
 
 pub ten_digits : decimal 4294967295 ≡ 52 ∷ 50 ∷ 57 ∷ 52 ∷ 57 ∷ 54 ∷ 55 ∷ 50 ∷ 57 ∷ 53 ∷ []
 unfolding computing

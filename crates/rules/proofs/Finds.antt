@@ -1,13 +1,14 @@
 -- What the searches of document 01 find, in numbers: the key's record, the first free one, the victim, the coldest on a line and the
 -- hottest without one; and what a record that is all zero says. Assumes nothing.
 use Prim.Native.Nat.{ℕ, ◌≤◌, ◌<◌}
-use mathlib.Core.Path.{◌≡◌, sym, ◌∙◌, ap}
+use mathlib.Core.Path.{◌≡◌, refl, sym, ◌∙◌, ap}
 use mathlib.Core.Bool.{true, false}
 use mathlib.Core.Logic.{◌≢◌}
 use native.Mathlib.Omega.{arith}
 use borrow.Author.Tests.{ltb-true, ltb-false, lt-ltb, le-ltb, eqb-true, eqb-false, eq-eqb}
 use Rattle.rules.specs.declared.Record.{Record}
 use Rattle.std.specs.Prelude.{Some, None}
+use Rattle.rules.specs.Pass.{Found}
 use Rattle.rules.specs.Table.{is_free, is_zero, is_tracked, is_unlined, is_lined, has_key, key_record, free_record, colder, hotter, leaves, victim, coldest_lined, hottest_unlined}
 use Rattle.rules.proofs.Searches.{both, clash, first_at, first_nowhere, IsBest, best_at, best_nowhere}
 
@@ -36,6 +37,16 @@ module _ (f : ℕ → Record) (n : ℕ) where
       let h = first_at (has_key key) f n i r e in
       let p = both _ _ (ap (has_key key) (sym h.is) ∙ h.passes) in
       record { inside = h.inside; is = h.is; has = (ltb-true _ _ p.0, eqb-true _ _ p.1) }
+
+  pub key_nowhere : (key : ℕ) → ((j : ℕ) → j < n → 0 < (f j).state → (f j).key ≢ key) → key_record key f n ≡ None
+  key_nowhere key none = go (key_record key f n) refl
+    where
+      go : (x : Found) → key_record key f n ≡ x → x ≡ None
+      go None e = refl
+      go (Some (i, r)) e = let found = key_found key i r e in absurd (none i found.inside found.has.0 found.has.1)
+
+  pub key_inside : (key i : ℕ) (r : Record) → Some (i, r) ≡ key_record key f n → i < n
+  key_inside key i r e = (key_found key i r (sym e)).inside
 
   pub key_missing : (key : ℕ) → key_record key f n ≡ None → (j : ℕ) → j < n → 0 < (f j).state → (f j).key ≢ key
   unfolding key_record has_key is_tracked
@@ -173,6 +184,9 @@ module _ (f : ℕ → Record) (n : ℕ) where
           λ j below waits. rw h.is at (ltb-false r.heat (f j).heat (h.unbeaten j below (eq-eqb _ _ waits))),
         );
       }
+
+  pub hottest_inside : (i : ℕ) (r : Record) → Some (i, r) ≡ hottest_unlined f n → i < n
+  hottest_inside i r e = (hottest_found i r (sym e)).inside
 
   pub hottest_first : (i : ℕ) (r : Record) → hottest_unlined f n ≡ Some (i, r) → (j : ℕ) → j < i → (f j).state ≡ 1 → (f j).heat < r.heat
   unfolding hotter is_unlined

@@ -13,7 +13,9 @@ pub mod SameLines
 pub mod AgeKeeps
 pub mod ReadKeeps
 pub mod LineKeeps
+pub mod LowerKeeps
 pub mod UpdateKeeps
+pub mod WithdrawKeeps
 pub mod FillKeeps
 pub mod Memories
 pub mod Finds
@@ -23,6 +25,7 @@ pub mod CallsHold
 pub mod Peek
 pub mod ReadHolds
 pub mod UpdateHolds
+pub mod WithdrawHolds
 pub mod FillHolds
 pub mod Verdicts
 pub mod Serials

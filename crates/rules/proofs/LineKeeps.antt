@@ -1,8 +1,8 @@
--- Giving an unused line, and handing a line over, keep the invariant; whom the lines then hold is decided by who took the line.
--- Only states over 0 and tickets change, so that what is said of keys, heats and slacks stays. Assumes nothing.
+-- Giving an unused line, and handing a line on, keep the invariant; whom the lines then hold is decided by who took the line.
+-- Of who gives a line or gets one only state and ticket change, so that what is said of keys, heats and slacks stays. Assumes nothing.
 use Prim.Native.Nat.{ℕ, ◌+◌, ◌*◌, ◌≤◌, ◌<◌}
 use mathlib.Core.Path.{◌≡◌, refl, sym, ◌∙◌}
-use mathlib.Core.Bool.{true, false}
+use mathlib.Core.Bool.{Bool, true, false}
 use mathlib.Core.Logic.{◌≢◌}
 use native.Mathlib.Decide.{dec_lt, ℕ_discrete}
 use native.Mathlib.Omega.{arith}
@@ -19,7 +19,7 @@ use Rattle.rules.proofs.Changes.{at_same, at_other, at_all}
 use Rattle.rules.proofs.Invariant.{Tracks, Full, FullBut, Hottest, HottestBut, HottestOver}
 
 -- ---- lines in use
-used_at : (f : ℕ → Record) (n j : ℕ) (r : Record) → j < n → f j ≡ r → 1 < r.state → is_used f n (line_of r) ≡ true
+pub used_at : (f : ℕ → Record) (n j : ℕ) (r : Record) → j < n → f j ≡ r → 1 < r.state → is_used f n (line_of r) ≡ true
 unfolding is_used is_on is_lined
 used_at f n j r inside is lined =
     any_at (is_on (line_of r)) f n j inside (rw (is, lt-ltb 1 r.state lined) (eq-eqb (line_of r) (line_of r) refl))
@@ -34,7 +34,7 @@ none_on f n line off =
     ])
 
 -- a line unused in g is unused in f, where each line of f is one of g
-unused_before : (f g : ℕ → Record) (n : ℕ) → ((j : ℕ) → j < n → 1 < (f j).state → is_used g n (line_of (f j)) ≡ true) →
+pub unused_before : (f g : ℕ → Record) (n : ℕ) → ((j : ℕ) → j < n → 1 < (f j).state → is_used g n (line_of (f j)) ≡ true) →
     (line : ℕ) → is_used g n line ≡ false → is_used f n line ≡ false
 unused_before f g n each line unused =
     none_on f n line (λ j below lined e. clash (rw e at (each j below lined)) unused)
@@ -194,85 +194,115 @@ module _ (f : ℕ → Record) (n c i line ticket : ℕ) (inside : i < n) (waits 
             absurd (at_all (λ k r. r.state ≢ 1) i _ f (omega arith) k (h.none_waits line there unused k k-below) waits);
       }
 
--- ---- the line of the record at a goes to the record at b, with a ticket
-abbrev pub handed : (ℕ → Record) → ℕ → ℕ → ℕ → ℕ → Record
-handed f ticket a b = at b (on_empty_line (line_of (f a)) ticket (f b)) (at a (unlined (f a)) f)
+-- where one waits, every line is used
+pub all_used : (f : ℕ → Record) (n c : ℕ) → Full f n c → (j : ℕ) → j < n → (f j).state ≡ 1 → (line : ℕ) → line < c →
+    is_used f n line ≡ true
+all_used f n c h j inside waits line below = go (is_used f n line) refl
+  where
+    go : (b : Bool) → is_used f n line ≡ b → b ≡ true
+    go true e = refl
+    go false e = absurd (h.none_waits line below e j inside waits)
 
-module _ (f : ℕ → Record) (n c ticket a b : ℕ) (a-inside : a < n) (b-inside : b < n) (lined : 1 < (f a).state) (waits : (f b).state ≡ 1) where
-  -- a gives its line up, which is then unused, and b gets it
-  pub hand_tracks : (g : Gauge) (t : Truth) → Tracks f n c g t → Tracks (handed f ticket a b) n c (with_serial ticket g) t
-  unfolding unlined line_of
-  hand_tracks g t s =
-      let without : ℕ → Record = at a (unlined (f a)) f in
-      let loses : Restated (f a) (unlined (f a)) =
-      record { key = refl; heat = refl; slack = refl; tracked = omega arith; unlined_ticket = λ low. refl } in
-      let without_tracks : Tracks without n c g t =
-      state_tracks f n c a (unlined (f a)) a-inside (omega arith) loses g t (omega arith) (λ j below other l. absurd (omega arith)) s in
+-- ---- the record at a becomes one without a line, and its line goes to the record at b, with a ticket
+abbrev pub handed : (ℕ → Record) → ℕ → ℕ → Record → ℕ → ℕ → Record
+handed f ticket a left b = at b (on_empty_line (line_of (f a)) ticket (f b)) (at a left f)
+
+-- what becomes of a record that gives its line up
+pub record Off (left : Record) : Type 0 where
+  pub state : left.state ≤ 1
+  pub ticket : left.ticket ≡ 0
+
+pub unlined_off : (r : Record) → Off (unlined r)
+unfolding unlined
+unlined_off r = record { state = omega arith; ticket = refl }
+
+-- it stays tracked
+pub unlined_tracks : (f : ℕ → Record) (n c a : ℕ) → a < n → 1 < (f a).state → (g : Gauge) (t : Truth) → Tracks f n c g t →
+    Tracks (at a (unlined (f a)) f) n c g t
+unfolding unlined
+unlined_tracks f n c a inside lined g t =
+    let loses : Restated (f a) (unlined (f a)) =
+    record { key = refl; heat = refl; slack = refl; tracked = omega arith; unlined_ticket = λ low. refl } in
+    state_tracks f n c a (unlined (f a)) inside (omega arith) loses g t (omega arith) (λ j below other l. absurd (omega arith))
+
+module _ (f : ℕ → Record) (n ticket a b : ℕ) (left : Record) (off : Off left) (a-inside : a < n) (b-inside : b < n)
+    (lined : 1 < (f a).state) (waits : (f b).state ≡ 1) where
+  -- its line is then unused, and b gets it
+  pub hand_tracks : (c : ℕ) (g : Gauge) (t was : Truth) → Tracks f n c g was → Tracks (at a left f) n c g t →
+      Tracks (handed f ticket a left b) n c (with_serial ticket g) t
+  unfolding line_of
+  hand_tracks c g t was s without_tracks =
+      let without : ℕ → Record = at a left f in
       let unused : is_used without n (line_of (f a)) ≡ false =
       none_on without n (line_of (f a))
-      (λ j below. at_all (λ j r. 1 < r.state → line_of r ≢ line_of (f a)) a _ f (λ l. absurd (omega arith)) j
+      (λ j below. at_all (λ j r. 1 < r.state → line_of r ≢ line_of (f a)) a left f (λ l. absurd (omega (arith, off.state))) j
       (λ other j-lined e. other (s.lines_apart j a below a-inside j-lined lined e))) in
-      let same : without b ≡ f b = at_other a b _ f (λ e. omega (arith, rw e at waits)) in
+      let same : without b ≡ f b = at_other a b left f (λ e. omega (arith, rw e at waits)) in
       rw same at
       (give_tracks without n c b (line_of (f a)) ticket b-inside (rw same waits) (omega (arith, s.state_most a a-inside)) unused
       g t without_tracks)
 
   -- every line that was used is used
-  pub hand_full : ((line : ℕ) → line < c → is_used f n line ≡ true) → Full (handed f ticket a b) n c
-  hand_full all =
-      record { none_waits = λ line below unused. clash (all line below) (unused_before f (handed f ticket a b) n each line unused) }
+  pub hand_full : (c : ℕ) → ((line : ℕ) → line < c → is_used f n line ≡ true) → Full (handed f ticket a left b) n c
+  hand_full c all =
+      record { none_waits = λ line below unused. clash (all line below) (unused_before f (handed f ticket a left b) n each line unused) }
     where
-      each : (j : ℕ) → j < n → 1 < (f j).state → is_used (handed f ticket a b) n (line_of (f j)) ≡ true
+      each : (j : ℕ) → j < n → 1 < (f j).state → is_used (handed f ticket a left b) n (line_of (f j)) ≡ true
       each j below j-lined =
           elim (ℕ_discrete j a) [
-            | yes e ↦ rw e (taken_used (handed f ticket a b) n b (line_of (f a)) ticket (f b) b-inside (at_same b _ _))
+            | yes e ↦ rw e (taken_used (handed f ticket a left b) n b (line_of (f a)) ticket (f b) b-inside (at_same b _ _))
             | no e ↦
                 let not_b : j ≢ b = λ e. omega (arith, rw e at j-lined) in
-                used_at (handed f ticket a b) n j (f j) below (at_other b j _ _ not_b ∙ at_other a j _ f e) j-lined
+                used_at (handed f ticket a left b) n j (f j) below (at_other b j _ _ not_b ∙ at_other a j _ f e) j-lined
           ]
 
-  handed_all : (P : ℕ → Record → Type 0) → P a (unlined (f a)) → P b (on_empty_line (line_of (f a)) ticket (f b)) →
-      (j : ℕ) → (j ≢ a → j ≢ b → P j (f j)) → P j (handed f ticket a b j)
+  handed_all : (P : ℕ → Record → Type 0) → P a left → P b (on_empty_line (line_of (f a)) ticket (f b)) →
+      (j : ℕ) → (j ≢ a → j ≢ b → P j (f j)) → P j (handed f ticket a left b j)
   handed_all P at_a at_b j there = at_all P b _ _ at_b j (λ not_b. at_all P a _ f at_a j (λ not_a. there not_a not_b))
 
-  -- none without a line is hotter than a heat, if a is not and no other without one was
-  none_over : (heat : ℕ) → (f a).heat ≤ heat → (j : ℕ) → (j ≢ b → (f j).state ≡ 1 → (f j).heat ≤ heat) →
-      (handed f ticket a b j).state ≡ 1 → (handed f ticket a b j).heat ≤ heat
-  unfolding unlined on_empty_line empty_state
+  -- none without a line is hotter than a heat, if what a becomes is not and no other without one was
+  none_over : (heat : ℕ) → (left.state ≡ 1 → left.heat ≤ heat) → (j : ℕ) → (j ≢ b → (f j).state ≡ 1 → (f j).heat ≤ heat) →
+      (handed f ticket a left b j).state ≡ 1 → (handed f ticket a left b j).heat ≤ heat
+  unfolding on_empty_line empty_state
   none_over heat a-under j under =
-      handed_all (λ j r. r.state ≡ 1 → r.heat ≤ heat) (λ _. a-under) (λ e. absurd (omega arith)) j (λ not_a. under)
+      handed_all (λ j r. r.state ≡ 1 → r.heat ≤ heat) a-under (λ e. absurd (omega arith)) j (λ not_a. under)
 
-  hand_hottest : ((i j : ℕ) → i < n → j < n → 1 < (f i).state → (f j).state ≡ 1 → i ≢ a → j ≢ b → (f j).heat ≤ (f i).heat) →
-      ((i : ℕ) → i < n → 1 < (f i).state → i ≢ a → (f a).heat ≤ (f i).heat) →
+  pub hand_hottest : ((i j : ℕ) → i < n → j < n → 1 < (f i).state → (f j).state ≡ 1 → i ≢ a → j ≢ b → (f j).heat ≤ (f i).heat) →
+      (left.state ≡ 1 → (i : ℕ) → i < n → 1 < (f i).state → i ≢ a → left.heat ≤ (f i).heat) →
       ((j : ℕ) → j < n → (f j).state ≡ 1 → j ≢ b → (f j).heat ≤ (f b).heat) →
-      (f a).heat < (f b).heat → Hottest (handed f ticket a b) n
-  unfolding unlined on_empty_line
+      (left.state ≡ 1 → left.heat ≤ (f b).heat) → Hottest (handed f ticket a left b) n
+  unfolding on_empty_line
   hand_hottest others over under hotter =
       record {
         hottest = λ i j i-below j-below.
-            handed_all (λ i r. 1 < r.state → (handed f ticket a b j).state ≡ 1 → (handed f ticket a b j).heat ≤ r.heat)
-            (λ l. absurd (omega arith))
-            (λ l. none_over (f b).heat (omega arith) j (λ not_b e. under j j-below e not_b))
+            handed_all (λ i r. 1 < r.state → (handed f ticket a left b j).state ≡ 1 → (handed f ticket a left b j).heat ≤ r.heat)
+            (λ l. absurd (omega (arith, off.state)))
+            (λ l. none_over (f b).heat hotter j (λ not_b e. under j j-below e not_b))
             i
-            (λ not_a not_b l. none_over (f i).heat (over i i-below l not_a) j (λ not_b e. others i j i-below j-below l e not_a not_b));
+            (λ not_a not_b l. none_over (f i).heat (λ e. over e i i-below l not_a) j
+            (λ not_b e. others i j i-below j-below l e not_a not_b));
       }
 
-  -- the hotter one takes the line of the coldest
-  pub take_hottest : HottestBut b f n → ((j : ℕ) → j < n → 1 < (f j).state → (f a).heat ≤ (f j).heat) → (f a).heat < (f b).heat →
-      Hottest (handed f ticket a b) n
-  take_hottest h coldest hotter =
-      hand_hottest
+-- the hotter one takes the line of the coldest
+module _ (f : ℕ → Record) (n ticket a b : ℕ) (a-inside : a < n) (b-inside : b < n) (lined : 1 < (f a).state) (waits : (f b).state ≡ 1)
+    (hotter : (f a).heat < (f b).heat) where
+  pub take_hottest : HottestBut b f n → ((j : ℕ) → j < n → 1 < (f j).state → (f a).heat ≤ (f j).heat) →
+      Hottest (handed f ticket a (unlined (f a)) b) n
+  unfolding unlined
+  take_hottest h coldest =
+      hand_hottest f n ticket a b (unlined (f a)) (unlined_off (f a)) a-inside b-inside lined waits
       (λ i j i-below j-below l e not_a. h.hottest i j i-below j-below l e)
-      (λ i below l not_a. coldest i below l)
+      (λ _ i below l not_a. coldest i below l)
       (λ j below e not_b. omega (arith, h.hottest a j a-inside below lined e not_b))
-      hotter
+      (λ _. omega arith)
 
   -- the colder one is demoted for the hottest
-  pub demote_hottest : HottestOver a f n → ((j : ℕ) → j < n → (f j).state ≡ 1 → (f j).heat ≤ (f b).heat) → (f a).heat < (f b).heat →
-      Hottest (handed f ticket a b) n
-  demote_hottest h hottest hotter =
-      hand_hottest
+  pub demote_hottest : HottestOver a f n → ((j : ℕ) → j < n → (f j).state ≡ 1 → (f j).heat ≤ (f b).heat) →
+      Hottest (handed f ticket a (unlined (f a)) b) n
+  unfolding unlined
+  demote_hottest h hottest =
+      hand_hottest f n ticket a b (unlined (f a)) (unlined_off (f a)) a-inside b-inside lined waits
       (λ i j i-below j-below l e not_a not_b. h.hottest i j i-below j-below l e not_a)
-      (λ i below l not_a. omega (arith, h.hottest i b below b-inside l waits not_a))
+      (λ _ i below l not_a. omega (arith, h.hottest i b below b-inside l waits not_a))
       (λ j below e not_b. hottest j below e)
-      hotter
+      (λ _. omega arith)

@@ -4,7 +4,7 @@ use Prim.Native.Nat.{ℕ, zero, suc, ◌+◌, ◌-◌, ◌%◌, ◌<◌, ◌≤�
 use mathlib.Core.Path.{◌≡◌, refl, ap}
 use mathlib.Core.Logic.{◌≢◌}
 use mathlib.Core.List.{List, [], ◌∷◌}
-use mathlib.Core.Bool.{Bool, true, false, ◌&&◌, ◌||◌}
+use mathlib.Core.Bool.{Bool, true, false, ◌&&◌, ◌||◌, and-false}
 use mathlib.Core.Option.{none, some}
 use native.Mathlib.Omega.{arith}
 use borrow.Author.Tests.{ne_eqb, le-leb, lt-leb}
@@ -14,19 +14,21 @@ use Rattle.rules.specs.declared.Record.{Record}
 use Rattle.rules.specs.Pass.{Found}
 use Rattle.std.specs.Prelude.{Some, None}
 use Rattle.rules.specs.Answers.{Completion}
-use Rattle.std.specs.Prelude.{Ok, Err}
+use Rattle.std.specs.Prelude.{Result, Ok, Err}
 use Rattle.rules.specs.declared.Lookup.TheVariants.{Unlined, Lined}
+use Rattle.rules.specs.declared.Refusal.{Refusal}
 use Rattle.rules.specs.declared.Refusal.TheVariants.{ShortEnd, StaleTicket, UnknownForm}
 use Rattle.rules.specs.Refusals.{number}
-use Rattle.rules.specs.declared.Entry.TheVariants.{Read, Update, Fill, Age}
+use Rattle.rules.specs.declared.Entry.{Entry}
+use Rattle.rules.specs.declared.Entry.TheVariants.{Read, Update, Fill, Age, Withdraw}
 use Rattle.std.specs.Prelude.{if◌then◌else◌}
 use Rattle.rules.specs.Bytes.{number_size, get64}
 use Rattle.rules.specs.Table.{Memory, is_lined, is_filled, line_of, key_record, looked_up, lookup, places, size, fresh_memory}
-use Rattle.rules.specs.Answers.{answer_number, number_of, said, completion_said, levels_said, lookup_said, entry_said, Reply, read_kind, update_kind, fill_kind, age_kind}
-use Rattle.rules.specs.Steps.{Outcome, outcome, age_steps, change, update_steps, store_in, store, fill_steps, levelled_sum}
-use Rattle.rules.specs.Calls.{unless, leaving, verdict, sizes_test, plain_verdict, update_verdict, fill_verdict, fresh_outcome, age_outcome, update_outcome, fill_outcome, levelled_outcome}
+use Rattle.rules.specs.Answers.{answer_number, number_of, said, completion_said, levels_said, lookup_said, entry_said, Reply, read_kind, update_kind, fill_kind, age_kind, withdraw_kind}
+use Rattle.rules.specs.Steps.{Outcome, outcome, age_steps, change, update_steps, store_in, store, fill_steps, withdraw, withdraw_steps, levelled_sum}
+use Rattle.rules.specs.Calls.{unless, leaving, verdict, sizes_test, plain_verdict, update_verdict, fill_verdict, withdraw_verdict, fresh_outcome, age_outcome, update_outcome, fill_outcome, withdraw_outcome, levelled_outcome}
 use Rattle.rules.specs.Journal.{entry_size, kind_at, weight_at, key_at, picture_place, ticket_at, gaps_zero, picture_zero, weight_zero, key_zero, ticket_zero, of_form, whole_entry, decoded, entry_at}
-use Rattle.rules.specs.Numbers.{refusal, age_number, change_number, update_number, key_said, store_number, fill_number, fresh_said, levelled_said, form_good, form_values, said_at}
+use Rattle.rules.specs.Numbers.{refusal, age_number, change_number, update_number, withdrawn_number, withdraw_number, key_said, store_number, fill_number, fresh_said, levelled_said, form_good, form_values, said_at}
 
 -- ---- by the tests
 -- a refused call's number is its verdict's, an accepted one's is its steps'
@@ -48,6 +50,15 @@ update_number_lem m key w =
     changes : (x : Found) → number_of (change m w x).answer ≡ change_number x
     changes None = refl
     changes (Some (i, r)) = refl
+
+pub withdraw_number_lem : (m : Memory) (key : ℕ) → number_of (withdraw_outcome m key).answer ≡ withdraw_number m key
+unfolding withdraw_outcome withdraw_number withdraw_steps withdraw withdrawn_number number_of answer_number
+withdraw_number_lem m key =
+    unless_number (withdraw_verdict m) m (withdraw_steps m key) _ (withdraws (key_record key (places m) (size m)))
+  where
+    withdraws : (x : Found) → number_of (withdraw m x).answer ≡ withdrawn_number x
+    withdraws None = refl
+    withdraws (Some (i, r)) = refl
 
 pub fresh_said_lem : (m : Memory) → completion_said (fresh_outcome m).answer ≡ fresh_said m
 unfolding fresh_outcome fresh_said unless completion_said
@@ -122,15 +133,19 @@ module _ (k w place brought : ℕ) where
       then of_form (gaps && picture && ticket) (Update k w)
       else if eqb kind fill_kind
       then of_form (gaps && weight) (Fill k place brought)
-      else of_form (eqb kind age_kind && gaps && weight && picture && key && ticket) Age))
+      else if eqb kind age_kind
+      then of_form (gaps && weight && picture && key && ticket) Age
+      else of_form (eqb kind withdraw_kind && gaps && weight && picture && ticket) (Withdraw k)))
       ≡ (if leb 1 kind
-      && leb kind 4
+      && leb kind 5
       && gaps
       && (leb kind 2 || weight)
       && (eqb kind 3 || picture)
       && (eqb kind 3 || ticket)
-      && (leb kind 3 || key)
-      then said (some kind) (if leb kind 2 then k ∷ w ∷ [] else if eqb kind 3 then k ∷ place ∷ brought ∷ [] else [])
+      && (leb kind 3 || eqb kind 5 || key)
+      then said (some kind) (if leb kind 2
+      then k ∷ w ∷ []
+      else if eqb kind 3 then k ∷ place ∷ brought ∷ [] else if eqb kind 5 then k ∷ [] else [])
       else refusal 7)
 
   read_said_lem : (gaps weight picture ticket key : Bool) → KindSaid 1 gaps weight picture ticket key
@@ -163,7 +178,15 @@ module _ (k w place brought : ℕ) where
   age_said true true true true false = refl
   age_said true true true true true = refl
 
-  other_said : (kind : ℕ) (gaps weight picture ticket key : Bool) → 4 < kind → KindSaid kind gaps weight picture ticket key
+  withdraw_said : (gaps weight picture ticket key : Bool) → KindSaid 5 gaps weight picture ticket key
+  unfolding entry_said of_form number
+  withdraw_said false weight picture ticket key = refl
+  withdraw_said true false picture ticket key = refl
+  withdraw_said true true false ticket key = refl
+  withdraw_said true true true false key = refl
+  withdraw_said true true true true key = refl
+
+  other_said : (kind : ℕ) (gaps weight picture ticket key : Bool) → 5 < kind → KindSaid kind gaps weight picture ticket key
   unfolding entry_said of_form number
   other_said kind gaps weight picture ticket key over =
       rw (
@@ -171,8 +194,9 @@ module _ (k w place brought : ℕ) where
         ne_eqb kind 2 (omega arith),
         ne_eqb kind 3 (omega arith),
         ne_eqb kind 4 (omega arith),
+        ne_eqb kind 5 (omega arith),
         le-leb 1 kind (omega arith),
-        lt-leb kind 4 over,
+        lt-leb kind 5 over,
       )
 
   kind_said : (kind : ℕ) (gaps weight picture ticket key : Bool) → KindSaid kind gaps weight picture ticket key
@@ -182,8 +206,9 @@ module _ (k w place brought : ℕ) where
   kind_said (suc (suc zero)) gaps weight picture ticket key = update_said gaps weight picture ticket key
   kind_said (suc (suc (suc zero))) gaps weight picture ticket key = fill_said gaps weight picture ticket key
   kind_said (suc (suc (suc (suc zero)))) gaps weight picture ticket key = age_said gaps weight picture ticket key
-  kind_said (suc (suc (suc (suc (suc n))))) gaps weight picture ticket key =
-      other_said (suc (suc (suc (suc (suc n))))) gaps weight picture ticket key (omega arith)
+  kind_said (suc (suc (suc (suc (suc zero))))) gaps weight picture ticket key = withdraw_said gaps weight picture ticket key
+  kind_said (suc (suc (suc (suc (suc (suc n)))))) gaps weight picture ticket key =
+      other_said (suc (suc (suc (suc (suc (suc n)))))) gaps weight picture ticket key (omega arith)
 
 pub entry_said_lem : (j : List ℕ) (at : ℕ) → entry_said (entry_at j at).entry ≡ said_at j at
 unfolding entry_at decoded whole_entry said_at form_good form_values entry_said number
@@ -229,25 +254,15 @@ module _ (j : List ℕ) (at : ℕ) where
   unfolding whole_entry of_form
   ticket_of_fills i other few some_byte =
       rw (ne_eqb (kind_at j at) fill_kind other, not_ticket_zero i few some_byte)
-      (kinds (eqb (kind_at j at) read_kind) (eqb (kind_at j at) update_kind) (eqb (kind_at j at) age_kind) (gaps_zero j at)
-      (picture_zero j at) (weight_zero j at) (key_zero j at))
+      (simp and-false (kinds (eqb (kind_at j at) read_kind) (eqb (kind_at j at) update_kind) (eqb (kind_at j at) age_kind)))
     where
-      kinds : (read update age gaps picture weight key : Bool) →
+      kinds : (read update age : Bool) →
+          ◌≡◌ {A = Result Entry Refusal}
           (if read
-          then of_form (gaps && picture && false) (Read (key_at j at) (weight_at j at))
-          else if update
-          then of_form (gaps && picture && false) (Update (key_at j at) (weight_at j at))
-          else of_form (age && gaps && weight && picture && key && false) Age)
-          ≡ Err UnknownForm
-      kinds true update age false picture weight key = refl
-      kinds true update age true false weight key = refl
-      kinds true update age true true weight key = refl
-      kinds false true age false picture weight key = refl
-      kinds false true age true false weight key = refl
-      kinds false true age true true weight key = refl
-      kinds false false false gaps picture weight key = refl
-      kinds false false true false picture weight key = refl
-      kinds false false true true picture false key = refl
-      kinds false false true true false true key = refl
-      kinds false false true true true true false = refl
-      kinds false false true true true true true = refl
+          then Err UnknownForm
+          else if update then Err UnknownForm else if age then Err UnknownForm else Err UnknownForm)
+          (Err UnknownForm)
+      kinds true update age = refl
+      kinds false true age = refl
+      kinds false false true = refl
+      kinds false false false = refl

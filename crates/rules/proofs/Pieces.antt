@@ -19,8 +19,8 @@ use Rattle.rules.specs.declared.Answer.TheVariants.{Passed}
 use Rattle.rules.specs.Answers.{Reply}
 use Rattle.rules.specs.Steps.{Outcome, outcome}
 use Rattle.rules.specs.declared.Entry.{Entry}
-use Rattle.rules.specs.declared.Entry.TheVariants.{Read, Update, Fill, Age}
-use Rattle.rules.specs.Answers.{read_kind, update_kind, fill_kind}
+use Rattle.rules.specs.declared.Entry.TheVariants.{Read, Update, Fill, Age, Withdraw}
+use Rattle.rules.specs.Answers.{read_kind, update_kind, fill_kind, age_kind}
 use Rattle.rules.specs.Bytes.{get64, line_size}
 use Rattle.std.specs.Prelude.{if◌then◌else◌}
 use Rattle.rules.specs.Table.{Memory}
@@ -115,7 +115,8 @@ module _ (j : List ℕ) (p : ℕ) (k : List ℕ) (q : ℕ) (same : (i : ℕ) →
       (same_arm (eqb (kind_at j p) read_kind) _ _ _ _ (same_form _ (Read _ _) (Read _ _) (λ m. refl))
       (same_arm (eqb (kind_at j p) update_kind) _ _ _ _ (same_form _ (Update _ _) (Update _ _) (λ m. refl))
       (same_arm (eqb (kind_at j p) fill_kind) _ _ _ _ (same_form _ (Fill _ _ _) (Fill _ _ _) (λ m. rw picture))
-      (same_form _ Age Age (λ m. refl)))))
+      (same_arm (eqb (kind_at j p) age_kind) _ _ _ _ (same_form _ Age Age (λ m. refl))
+      (same_form _ (Withdraw _) (Withdraw _) (λ m. refl))))))
 
   whole_alike : (shift : ℕ) → p ≡ shift + q → p + entry_size ≤ length j → q + entry_size ≤ length k → Alike j p k q shift
   unfolding decoded done

@@ -17,18 +17,18 @@ use Rattle.rules.specs.declared.Refusal.TheVariants.{WrongSizes, WrongWeight, No
 use Rattle.rules.specs.Refusals.{number}
 use Rattle.rules.specs.declared.Lookup.{Lookup}
 use Rattle.rules.specs.declared.Lookup.TheVariants.{Untracked, Unlined, Lined}
-use Rattle.rules.specs.declared.Answer.TheVariants.{Aged, Changed, Unknown, Stored, Passed, Hit, Wanted}
+use Rattle.rules.specs.declared.Answer.TheVariants.{Aged, Changed, Unknown, Stored, Passed, Withdrawn, Hit, Wanted}
 use Rattle.rules.specs.Bytes.{gauge_size}
 use Rattle.std.specs.Prelude.{if◌then◌else◌}
 use Rattle.rules.specs.Table.{Memory, lookup, places, size}
 use Rattle.rules.specs.Answers.{is_refused, answer_number, number_of, values_of, Told, Reply}
-use Rattle.rules.specs.Steps.{Outcome, outcome, age_steps, admission, place, read_counted, warm_steps, peek_steps, read_steps, change, update_steps, store_in, store, fill_steps, decay_for, grown}
-use Rattle.rules.specs.Calls.{unless, leaving, HostMemory, held, stored, gauge_test, verdict, hosted, HostRead, read_lent, number_test, put_ticket, hosted_read, plain_verdict, read_verdict, update_verdict, fill_verdict, age_outcome, read_outcome, update_outcome, fill_outcome}
+use Rattle.rules.specs.Steps.{Outcome, outcome, age_steps, admission, place, read_counted, warm_steps, peek_steps, read_steps, change, update_steps, store_in, store, fill_steps, withdraw, withdraw_steps, decay_for, grown}
+use Rattle.rules.specs.Calls.{unless, leaving, HostMemory, held, stored, gauge_test, verdict, hosted, HostRead, read_lent, number_test, put_ticket, hosted_read, plain_verdict, read_verdict, update_verdict, fill_verdict, withdraw_verdict, withdraw_outcome, age_outcome, read_outcome, update_outcome, fill_outcome}
 use Rattle.rules.proofs.Searches.{clash}
 use Rattle.rules.proofs.Verdicts.{first_passes, refused_leaves}
 use Rattle.rules.proofs.Peek.{read_either}
 
--- ---- no step of a read, an update or an aging refuses
+-- ---- no step of a read, an update, a withdrawal or an aging refuses
 place_answers : (m : Memory) (key w : ℕ) (x y z : Found) → is_refused (place m key w x y z).answer ≡ false
 unfolding place admission is_refused
 place_answers m key w (Some (i, r)) y z = refl
@@ -51,6 +51,11 @@ change_answers m w (Some (i, r)) = refl
 update_steps_answer : (m : Memory) (key w : ℕ) → is_refused (update_steps m key w).answer ≡ false
 unfolding update_steps
 update_steps_answer m key w = change_answers m w _
+
+withdraw_answers : (m : Memory) (x : Found) → is_refused (withdraw m x).answer ≡ false
+unfolding withdraw is_refused
+withdraw_answers m None = refl
+withdraw_answers m (Some (i, r)) = refl
 
 -- a fill that its steps refuse has written nothing
 store_leaves : (m : Memory) (picture : List ℕ) (ticket : ℕ) (l : Lookup) → is_refused (store m picture ticket l).answer ≡ true →
@@ -87,6 +92,11 @@ module _ (m : Memory) where
       refused_leaves m (fill_steps m key picture ticket) (fill_verdict m picture)
       (store_leaves m picture ticket (lookup (places m) (size m) key))
 
+  pub withdraw_leaves : (key : ℕ) → is_refused (withdraw_outcome m key).answer ≡ true → (withdraw_outcome m key).after ≡ m
+  unfolding withdraw_outcome withdraw_steps
+  withdraw_leaves key =
+      refused_leaves m (withdraw_steps m key) (withdraw_verdict m) (λ e. clash e (withdraw_answers m _))
+
   pub age_leaves : is_refused (age_outcome m).answer ≡ true → (age_outcome m).after ≡ m
   unfolding age_outcome age_steps is_refused
   age_leaves = refused_leaves m (age_steps m) (plain_verdict m) (λ e. clash e refl)
@@ -113,6 +123,7 @@ every_told (Ok Changed) = refl
 every_told (Ok Unknown) = refl
 every_told (Ok Stored) = refl
 every_told (Ok Passed) = refl
+every_told (Ok Withdrawn) = refl
 every_told (Ok (Hit n)) = le-ltb (2000 + n) 100 (omega arith)
 every_told (Ok (Wanted n ticket)) = le-ltb (4000 + n) 100 (omega arith)
 every_told (Err cause) = lt-ltb (number cause) 100 (number_few cause)
@@ -151,6 +162,7 @@ ticket_stays bytes (Ok Changed) e = refl
 ticket_stays bytes (Ok Unknown) e = refl
 ticket_stays bytes (Ok Stored) e = refl
 ticket_stays bytes (Ok Passed) e = refl
+ticket_stays bytes (Ok Withdrawn) e = refl
 ticket_stays bytes (Ok (Hit n)) e = refl
 ticket_stays bytes (Ok (Wanted n ticket)) e = let z : ◌≡◌ {A = ℕ} 0 1 = cc in absurd (omega arith)
 ticket_stays bytes (Err cause) e = refl

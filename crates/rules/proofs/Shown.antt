@@ -9,7 +9,7 @@ use native.Mathlib.Decide.{ℕ_discrete}
 use native.Mathlib.Omega.{arith}
 use Rattle.rules.specs.declared.Record.{Record}
 use Rattle.rules.specs.Table.{filled_state}
-use Rattle.rules.specs.Replay.{Filled, filled_with, at, update_stale}
+use Rattle.rules.specs.Replay.{Filled, filled_with, at, make_stale}
 use Rattle.rules.proofs.Changes.{at_same, at_other, at_all}
 use Rattle.rules.proofs.Invariant.{Shows}
 
@@ -58,8 +58,8 @@ module _ (f : ℕ → Record) (n serial : ℕ) (shown : ℕ → List ℕ) (pictu
   -- tickets become stale for a class that is on no line, or waits with a later one
   pub stale_shows : (key found : ℕ) → found ≤ serial →
       ((i : ℕ) → i < n → 1 < (f i).state → (f i).key ≡ key → found < (f i).ticket) →
-      Shows f n serial shown pictures (update_stale stale key found)
-  unfolding update_stale
+      Shows f n serial shown pictures (make_stale stale key found)
+  unfolding make_stale
   stale_shows key found most later =
       record {
         latest = s.latest;

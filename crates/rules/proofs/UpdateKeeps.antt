@@ -15,8 +15,9 @@ use Rattle.rules.specs.declared.Gauge.{Gauge}
 use Rattle.std.specs.Prelude.{if◌then◌else◌}
 use Rattle.rules.specs.Table.{cooled, emptied, empty_state, filled_state, is_free, is_lined, is_zero, line_of, with_state}
 use Rattle.rules.specs.Steps.{level}
-use Rattle.rules.specs.Replay.{Filled, Truth, at, update_truth, update_stale}
+use Rattle.rules.specs.Replay.{Filled, Truth, at, update_truth, make_stale}
 use Rattle.rules.proofs.Changes.{at_same, at_other, at_all}
+use Rattle.rules.proofs.LowerKeeps.{lowers}
 use Rattle.rules.proofs.Chosen.{where_le}
 use Rattle.rules.proofs.SameLines.{SameLine, same_lines_full}
 use Rattle.rules.proofs.Shown.{put_shows, forget_shows, stale_shows}
@@ -51,12 +52,6 @@ eased_level ceiling r r' e =
       | yes free ↦ rw (eq-eqb r.state 0 free, eq-eqb r'.state 0 (omega arith)) (omega arith)
       | no used ↦ rw (ne_eqb r.state 0 used, ne_eqb r'.state 0 (omega arith)) (omega arith)
     ]
-
--- no class's true heat grows
-update_lowers : (t : Truth) (key w k : ℕ) → (update_truth t key w).heat k ≤ t.heat k
-unfolding update_truth
-update_lowers t key w k =
-    at_all (λ k h. h ≤ t.heat k) key (t.heat key - w) t.heat (omega arith) k (λ other. omega arith)
 
 module _ (f : ℕ → Record) (n c i w : ℕ) (inside : i < n) (tracked : 0 < (f i).state) where
   abbrev r' : Record
@@ -94,7 +89,7 @@ module _ (f : ℕ → Record) (n c i w : ℕ) (inside : i < n) (tracked : 0 < (f
             at_all (λ j r. 0 < r.state → t'.heat r.key ≤ r.heat) i r' f
             (λ u. rw (here.eased.key, at_same (f i).key) (omega (arith, here.heat, s.not_below i inside tracked)))
             j
-            (λ other u. omega (arith, update_lowers t (f i).key w (f j).key, s.not_below j h u));
+            (λ other u. omega (arith, lowers t (f i).key (t.heat (f i).key - w) (omega arith) (f j).key, s.not_below j h u));
         not_above = λ j h.
             at_all (λ j r. 0 < r.state → r.heat ≤ t'.heat r.key + r.slack) i r' f
             (λ u. rw (here.eased.key, at_same (f i).key) (omega (arith, here, s.not_above i inside tracked)))
@@ -103,7 +98,7 @@ module _ (f : ℕ → Record) (n c i w : ℕ) (inside : i < n) (tracked : 0 < (f
         untracked = λ key none.
             omega (
               arith,
-              update_lowers t (f i).key w key,
+              lowers t (f i).key (t.heat (f i).key - w) (omega arith) key,
               s.untracked key (λ j h u e. none j h (omega (arith, each j)) ((each j).key ∙ e)),
             );
         few = s.few;
@@ -152,30 +147,9 @@ module _ (f : ℕ → Record) (n c i w : ℕ) (inside : i < n) (tracked : 0 < (f
       }
 
 -- an update of a class that is not in the table
-pub unknown_tracks : (f : ℕ → Record) (n c key w : ℕ) (g : Gauge) (t : Truth) →
-    ((j : ℕ) → j < n → 0 < (f j).state → (f j).key ≢ key) → Tracks f n c g t → Tracks f n c g (update_truth t key w)
-unfolding update_truth
-unknown_tracks f n c key w g t untracked s =
-    record {
-      total_most = s.total_most;
-      ceiling_most = s.ceiling_most;
-      heat_most = s.heat_most;
-      state_most = s.state_most;
-      free_zero = s.free_zero;
-      unlined_ticket = s.unlined_ticket;
-      keys_apart = s.keys_apart;
-      lines_apart = s.lines_apart;
-      not_below = λ j h u. omega (arith, update_lowers t key w (f j).key, s.not_below j h u);
-      not_above = λ j h u. rw (at_other key (f j).key _ _ (untracked j h u)) (s.not_above j h u);
-      untracked = λ k none. omega (arith, update_lowers t key w k, s.untracked k none);
-      few = s.few;
-      levels = s.levels;
-      total = s.total;
-    }
-
 pub unknown_shows : (f : ℕ → Record) (n key serial : ℕ) (shown : ℕ → List ℕ) (pictures : ℕ → Option Filled) (stale : ℕ → ℕ) →
     ((j : ℕ) → j < n → 0 < (f j).state → (f j).key ≢ key) → Shows f n serial shown pictures stale →
-    Shows f n serial shown (at key none pictures) (update_stale stale key serial)
+    Shows f n serial shown (at key none pictures) (make_stale stale key serial)
 unfolding filled_state
 unknown_shows f n key serial shown pictures stale untracked s =
     stale_shows f n serial shown (at key none pictures) stale

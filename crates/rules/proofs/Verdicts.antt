@@ -16,7 +16,7 @@ use Rattle.std.specs.Prelude.{if◌then◌else◌}
 use Rattle.rules.specs.Table.{Memory}
 use Rattle.rules.specs.Answers.{is_refused}
 use Rattle.rules.specs.Steps.{Outcome}
-use Rattle.rules.specs.Calls.{most_weight, serial_limit, sizes_good, read_weight_good, update_weight_good, picture_good, order_good, serial_good, Test, verdict, sizes_test, order_test, serial_test, unless, leaving, plain_verdict, read_verdict, update_verdict, fill_verdict, age_outcome, levelled_outcome, show_line}
+use Rattle.rules.specs.Calls.{most_weight, serial_limit, sizes_good, read_weight_good, update_weight_good, picture_good, order_good, serial_good, Test, verdict, sizes_test, order_test, serial_test, unless, leaving, plain_verdict, read_verdict, update_verdict, fill_verdict, withdraw_verdict, age_outcome, levelled_outcome, show_line}
 use Rattle.rules.proofs.Searches.{both}
 
 -- the first test passes, and then the others
@@ -98,6 +98,14 @@ fill_accepted m picture e =
       order = c.0;
       serial = ltb-true m.gauge.serial serial_limit d.0;
     }
+
+pub withdraw_accepted : (m : Memory) → withdraw_verdict m ≡ Ok tt → m.gauge.serial < serial_limit
+unfolding withdraw_verdict sizes_test order_test serial_test serial_good
+withdraw_accepted m e =
+    let a = first_passes _ _ e in
+    let b = first_passes _ _ a.1 in
+    let c = first_passes _ _ b.1 in
+    ltb-true m.gauge.serial serial_limit c.0
 
 -- ---- accepted or refused is what the answer says
 module _ {Lent : Type 0} (lent : Lent) (given : Outcome Reply Lent) where

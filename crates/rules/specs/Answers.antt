@@ -3,15 +3,15 @@ use Rattle.std.specs.Prelude.{ℕ, ◌+◌, ◌≡◌, List, [], ◌∷◌, Bool
 use Rattle.std.proofs.Math.Option as maybe
 use Rattle.std.proofs.Math.Option.{none, some}
 use Rattle.rules.specs.declared.Answer.{Answer}
-use Rattle.rules.specs.declared.Answer.TheVariants.{Aged, Changed, Unknown, Stored, Passed, Hit, Wanted}
+use Rattle.rules.specs.declared.Answer.TheVariants.{Aged, Changed, Unknown, Stored, Passed, Withdrawn, Hit, Wanted}
 use Rattle.rules.specs.declared.Refusal.{Refusal}
 use Rattle.rules.specs.declared.Refusal.TheVariants.{NoLine, AlreadyFilled}
 use Rattle.rules.specs.declared.Lookup.{Lookup}
 use Rattle.rules.specs.declared.Entry.{Entry}
-use Rattle.rules.specs.declared.Entry.TheVariants.{Read, Update, Fill, Age}
+use Rattle.rules.specs.declared.Entry.TheVariants.{Read, Update, Fill, Age, Withdraw}
 use Rattle.rules.specs.Refusals.{number}
 
--- what a read, update, fill or aging says: its answer, or why it is refused
+-- what a read, update, fill, aging or withdrawal says: its answer, or why it is refused
 abbrev pub Reply : Type 0
 Reply = Result Answer Refusal
 
@@ -20,13 +20,14 @@ abbrev pub Completion : Type 0
 Completion = Result Unit Refusal
 
 -- | returns one number: a refusal's own, 100 for aged, 101 changed, 102 unknown, 103 stored, 104 passed, 2,000 + n for hit and
--- | 4,000 + n for wanted on line n
+-- | 4,000 + n for wanted on line n. .. withdrawn (105 when exported) (document 02)
 unfoldable pub answer_number : Answer → ℕ
 answer_number Aged = 100
 answer_number Changed = 101
 answer_number Unknown = 102
 answer_number Stored = 103
 answer_number Passed = 104
+answer_number Withdrawn = 105
 answer_number (Hit n) = 2000 + n
 answer_number (Wanted n ticket) = 4000 + n
 
@@ -58,6 +59,7 @@ values_of (Ok Changed) = []
 values_of (Ok Unknown) = []
 values_of (Ok Stored) = []
 values_of (Ok Passed) = []
+values_of (Ok Withdrawn) = []
 values_of (Ok (Hit n)) = []
 values_of (Ok (Wanted n ticket)) = ticket ∷ []
 values_of (Err cause) = []
@@ -89,7 +91,7 @@ lookup_said Lookup.Unlined = said (some (number NoLine)) []
 lookup_said (Lookup.Lined place line true ticket) = said (some (number AlreadyFilled)) (place ∷ line ∷ ticket ∷ [])
 lookup_said (Lookup.Lined place line false ticket) = said none (place ∷ line ∷ ticket ∷ [])
 
--- | Byte 0 is the kind: 1 read, 2 update, 3 fill, 4 age
+-- | Byte 0 is the kind: 1 read, 2 update, 3 fill, 4 age. .. [A withdrawal's] journal kind is 5 (document 02)
 abbrev pub read_kind : ℕ
 read_kind = 1
 
@@ -102,10 +104,14 @@ fill_kind = 3
 abbrev pub age_kind : ℕ
 age_kind = 4
 
+abbrev pub withdraw_kind : ℕ
+withdraw_kind = 5
+
 unfoldable pub entry_said : Option (Result Entry Refusal) → Said
 entry_said (Some (Ok (Read key weight))) = said (some read_kind) (key ∷ weight ∷ [])
 entry_said (Some (Ok (Update key weight))) = said (some update_kind) (key ∷ weight ∷ [])
 entry_said (Some (Ok (Fill key picture ticket))) = said (some fill_kind) (key ∷ picture ∷ ticket ∷ [])
 entry_said (Some (Ok Age)) = said (some age_kind) []
+entry_said (Some (Ok (Withdraw key))) = said (some withdraw_kind) (key ∷ [])
 entry_said (Some (Err cause)) = said (some (number cause)) []
 entry_said None = said none []

@@ -4,14 +4,14 @@ use Rattle.std.proofs.Math.Option.{Option, none}
 use Rattle.rules.specs.declared.Gauge.{Gauge}
 use Rattle.rules.specs.declared.View.{View}
 use Rattle.rules.specs.declared.Hub.{Hub}
-use Rattle.rules.specs.declared.Answer.TheVariants.{Aged, Changed, Unknown, Stored, Passed, Hit, Wanted}
+use Rattle.rules.specs.declared.Answer.TheVariants.{Aged, Changed, Unknown, Stored, Passed, Withdrawn, Hit, Wanted}
 use Rattle.rules.specs.declared.Refusal.{Refusal}
 use Rattle.rules.specs.declared.Refusal.TheVariants.{WrongSizes, WrongWeight, NotInOrder, WrongPicture, SerialSpent}
 use Rattle.rules.specs.Refusals.{number}
 use Rattle.rules.specs.Bytes.{number_size, put64, record_size, record_count, line_size, line_count, gauge_size, gauge_at, put_gauge}
 use Rattle.rules.specs.Table.{Memory, in_order, lookup, places, size, line_total, fresh_memory}
 use Rattle.rules.specs.Answers.{Reply, Completion, number_of, done_number, completion_number}
-use Rattle.rules.specs.Steps.{Outcome, outcome, age_steps, read_steps, update_steps, fill_steps, shown_line, levelled_sum}
+use Rattle.rules.specs.Steps.{Outcome, outcome, age_steps, read_steps, update_steps, fill_steps, withdraw_steps, shown_line, levelled_sum}
 
 -- ---- the tests
 -- | K from 1 to 1,024
@@ -123,6 +123,13 @@ fill_verdict m picture =
 unfoldable pub fill_outcome : Memory → ℕ → List ℕ → ℕ → Outcome Reply Memory
 fill_outcome m key picture ticket = unless (fill_verdict m picture) (leaving m) (fill_steps m key picture ticket)
 
+-- | refusals 1, 3 and 10 apply (document 02)
+unfoldable pub withdraw_verdict : Memory → Completion
+withdraw_verdict m = verdict (sizes_test m ∷ order_test m ∷ serial_test (serial_good m) ∷ [])
+
+unfoldable pub withdraw_outcome : Memory → ℕ → Outcome Reply Memory
+withdraw_outcome m key = unless (withdraw_verdict m) (leaving m) (withdraw_steps m key)
+
 -- | Fresh gives only 1. .. Fresh .. answers done.
 unfoldable pub fresh_outcome : Memory → Outcome Completion Memory
 fresh_outcome m =
@@ -182,6 +189,7 @@ hosted call h =
     (outcome (call (held h)).answer (stored h (call (held h)).after))
 
 -- | An exported read, update, fill or aging returns one number
+-- (and a withdrawal: document 02)
 unfoldable pub exported : (Memory → Outcome Reply Memory) → HostMemory → Outcome ℕ HostMemory
 exported call h = outcome (number_of (hosted call h).answer) (hosted call h).after
 
@@ -205,6 +213,7 @@ put_ticket bytes (Ok Changed) = bytes
 put_ticket bytes (Ok Unknown) = bytes
 put_ticket bytes (Ok Stored) = bytes
 put_ticket bytes (Ok Passed) = bytes
+put_ticket bytes (Ok Withdrawn) = bytes
 put_ticket bytes (Ok (Hit n)) = bytes
 put_ticket bytes (Ok (Wanted n ticket)) = put64 bytes 0 ticket
 put_ticket bytes (Err cause) = bytes

@@ -1,17 +1,17 @@
 -- The journal: its record forms, reading it from a position, and running a whole journal on a memory with the rows it prints.
 use Rattle.std.specs.Prelude.{ℕ, zero, suc, ◌+◌, ◌-◌, ◌*◌, ◌/◌, ◌%◌, ◌≡◌, List, [], ◌∷◌, ◌++◌, Bool, true, ◌&&◌, length, get_or, take, drop, ltb, leb, eqb, if◌then◌else◌, Option, Some, None, Result, Ok, Err}
 use Rattle.rules.specs.declared.Entry.{Entry}
-use Rattle.rules.specs.declared.Entry.TheVariants.{Read, Update, Fill, Age}
+use Rattle.rules.specs.declared.Entry.TheVariants.{Read, Update, Fill, Age, Withdraw}
 use Rattle.rules.specs.declared.Decoded.{Decoded}
-use Rattle.rules.specs.declared.Answer.TheVariants.{Aged, Changed, Unknown, Stored, Passed, Hit, Wanted}
+use Rattle.rules.specs.declared.Answer.TheVariants.{Aged, Changed, Unknown, Stored, Passed, Withdrawn, Hit, Wanted}
 use Rattle.rules.specs.declared.Refusal.{Refusal}
 use Rattle.rules.specs.declared.Refusal.TheVariants.{UnknownForm, ShortEnd}
 use Rattle.rules.specs.Refusals.{number}
 use Rattle.rules.specs.Bytes.{get64, line_size}
 use Rattle.rules.specs.Table.{Memory}
-use Rattle.rules.specs.Answers.{Reply, read_kind, update_kind, fill_kind, age_kind}
+use Rattle.rules.specs.Answers.{Reply, read_kind, update_kind, fill_kind, age_kind, withdraw_kind}
 use Rattle.rules.specs.Steps.{Outcome, outcome}
-use Rattle.rules.specs.Calls.{age_outcome, read_outcome, update_outcome, fill_outcome}
+use Rattle.rules.specs.Calls.{age_outcome, read_outcome, update_outcome, fill_outcome, withdraw_outcome}
 
 -- ---- the forms, of the record that begins at a position
 -- | no header. .. in records of 88 bytes (document 02)
@@ -54,7 +54,7 @@ gaps_zero j at = zeros j (at + 1) 1 && zeros j (at + 4) 4
 unfoldable pub picture_zero : List ℕ → ℕ → Bool
 picture_zero j at = zeros j (picture_place at) line_size
 
--- | Weight is 0 in fills and agings
+-- | Weight is 0 in fills and agings (and in withdrawals: document 02)
 unfoldable pub weight_zero : List ℕ → ℕ → Bool
 weight_zero j at = eqb (weight_at j at) 0
 
@@ -70,7 +70,7 @@ ticket_zero j at = eqb (ticket_at j at) 0
 unfoldable pub of_form : Bool → Entry → Result Entry Refusal
 of_form good entry = if good then Ok entry else Err UnknownForm
 
--- | 1 read, 2 update, 3 fill, 4 age
+-- | 1 read, 2 update, 3 fill, 4 age. .. kind is 5, in the form of an aging but with the key (document 02)
 unfoldable pub whole_entry : List ℕ → ℕ → Result Entry Refusal
 whole_entry j at =
     if eqb (kind_at j at) read_kind
@@ -79,8 +79,11 @@ whole_entry j at =
     then of_form (gaps_zero j at && picture_zero j at && ticket_zero j at) (Update (key_at j at) (weight_at j at))
     else if eqb (kind_at j at) fill_kind
     then of_form (gaps_zero j at && weight_zero j at) (Fill (key_at j at) (picture_place at) (ticket_at j at))
+    else if eqb (kind_at j at) age_kind
+    then of_form (gaps_zero j at && weight_zero j at && picture_zero j at && key_zero j at && ticket_zero j at) Age
     else of_form
-    (eqb (kind_at j at) age_kind && gaps_zero j at && weight_zero j at && picture_zero j at && key_zero j at && ticket_zero j at) Age
+    (eqb (kind_at j at) withdraw_kind && gaps_zero j at && weight_zero j at && picture_zero j at && ticket_zero j at)
+    (Withdraw (key_at j at))
 
 -- ---- reading from a position
 -- | A reader that holds the lent journal and its position gives one record after another. A 7 moves it past that record, an 8
@@ -122,6 +125,9 @@ stored_word = 115 ∷ 116 ∷ 111 ∷ 114 ∷ 101 ∷ 100 ∷ []
 abbrev pub passed_word : List ℕ
 passed_word = 112 ∷ 97 ∷ 115 ∷ 115 ∷ 101 ∷ 100 ∷ []
 
+abbrev pub withdrawn_word : List ℕ
+withdrawn_word = 119 ∷ 105 ∷ 116 ∷ 104 ∷ 100 ∷ 114 ∷ 97 ∷ 119 ∷ 110 ∷ []
+
 abbrev pub hit_word : List ℕ
 hit_word = 104 ∷ 105 ∷ 116 ∷ []
 
@@ -137,6 +143,7 @@ word_of (Ok Changed) = changed_word
 word_of (Ok Unknown) = unknown_word
 word_of (Ok Stored) = stored_word
 word_of (Ok Passed) = passed_word
+word_of (Ok Withdrawn) = withdrawn_word
 word_of (Ok (Hit n)) = hit_word
 word_of (Ok (Wanted n ticket)) = wanted_word
 word_of (Err cause) = refused_word ++ decimal (number cause)
@@ -187,6 +194,7 @@ performed j (Ok (Read key w)) m = read_outcome m key w
 performed j (Ok (Update key w)) m = update_outcome m key w
 performed j (Ok (Fill key place ticket)) m = fill_outcome m key (picture_at j place) ticket
 performed j (Ok Age) m = age_outcome m
+performed j (Ok (Withdraw key)) m = withdraw_outcome m key
 performed j (Err cause) m = outcome (Err cause) m
 
 -- | 7: all [left as it was]; the program reads on. 8: all; the program ends. Both are numbered and printed like the others.

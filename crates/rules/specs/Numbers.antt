@@ -9,14 +9,14 @@ use Rattle.rules.specs.Bytes.{get64}
 use Rattle.rules.specs.Table.{Memory, is_lined, is_filled, line_of, key_record, places, size}
 use Rattle.rules.specs.Answers.{Said, said, Reply}
 use Rattle.rules.specs.Steps.{read_steps, levelled_sum}
-use Rattle.rules.specs.Calls.{most_records, verdict, sizes_test, unless, plain_verdict, read_verdict, update_verdict, fill_verdict}
+use Rattle.rules.specs.Calls.{most_records, verdict, sizes_test, unless, plain_verdict, read_verdict, update_verdict, fill_verdict, withdraw_verdict}
 use Rattle.rules.specs.Journal.{entry_size, kind_at, weight_at, key_at, picture_place, ticket_at, gaps_zero, picture_zero, weight_zero, key_zero, ticket_zero}
 
 -- | Returned: the number
 abbrev pub refusal : ℕ → Said
 refusal n = said (some n) []
 
--- ---- age, read, update, fill
+-- ---- age, read, update, fill, withdraw
 -- | 100 for aged
 unfoldable pub age_number : Memory → ℕ
 age_number m = unless (plain_verdict m) number 100
@@ -43,6 +43,14 @@ change_number (Some (i, r)) = 101
 
 unfoldable pub update_number : Memory → ℕ → ℕ → ℕ
 update_number m key w = unless (update_verdict m w) number (change_number (key_record key (places m) (size m)))
+
+-- | withdrawn (105 when exported), or unknown for an untracked key (document 02)
+unfoldable pub withdrawn_number : Found → ℕ
+withdrawn_number None = 102
+withdrawn_number (Some (i, r)) = 105
+
+unfoldable pub withdraw_number : Memory → ℕ → ℕ
+withdraw_number m key = unless (withdraw_verdict m) number (withdrawn_number (key_record key (places m) (size m)))
 
 -- ---- a key, looked up, and its fill
 -- | if there is none, or it has no line, the call ends there with 5; if the line is filled, with 6
@@ -73,23 +81,26 @@ levelled_said m = unless (plain_verdict m) (λ cause. refusal (number cause)) (s
 
 -- ---- the journal
 -- | Byte 0 is the kind: 1 read, 2 update, 3 fill, 4 age. Byte 1 is 0. .. 4 to 7 are 0. .. Weight is 0 in fills and agings, the
--- | picture is all 0 except in fills, an aging's key is 0. .. a fill's ticket .., zero otherwise (document 02)
+-- | picture is all 0 except in fills, an aging's key is 0. .. a fill's ticket .., zero otherwise. .. The journal kind is 5, in the form
+-- | of an aging but with the key. (Document 02)
 unfoldable pub form_good : List ℕ → ℕ → Bool
 form_good j at =
     leb 1 (kind_at j at)
-    && leb (kind_at j at) 4
+    && leb (kind_at j at) 5
     && gaps_zero j at
     && (leb (kind_at j at) 2 || weight_zero j at)
     && (eqb (kind_at j at) 3 || picture_zero j at)
     && (eqb (kind_at j at) 3 || ticket_zero j at)
-    && (leb (kind_at j at) 3 || key_zero j at)
+    && (leb (kind_at j at) 3 || eqb (kind_at j at) 5 || key_zero j at)
 
--- the key, with the weight, or the picture's place and the ticket
+-- the key, with the weight, or the picture's place and the ticket, or alone
 unfoldable pub form_values : List ℕ → ℕ → List ℕ
 form_values j at =
     if leb (kind_at j at) 2
     then key_at j at ∷ weight_at j at ∷ []
-    else if eqb (kind_at j at) 3 then key_at j at ∷ picture_place at ∷ ticket_at j at ∷ [] else []
+    else if eqb (kind_at j at) 3
+    then key_at j at ∷ picture_place at ∷ ticket_at j at ∷ []
+    else if eqb (kind_at j at) 5 then key_at j at ∷ [] else []
 
 -- | anything else is 7. .. 1 to 87 bytes left: 8. .. with no byte left it answers done
 unfoldable pub said_at : List ℕ → ℕ → Said

@@ -22,5 +22,5 @@ number UnknownForm = 7
 number ShortEnd = 8
 -- | 9: a fill with another ticket (document 02)
 number StaleTicket = 9
--- | 10: a read over 0, update or fill when the serial is 9,223,372,036,854,775,808 or more
+-- | 10: a read over 0, update or fill when the serial is 9,223,372,036,854,775,808 or more (and a withdrawal)
 number SerialSpent = 10

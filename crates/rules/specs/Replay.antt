@@ -1,5 +1,5 @@
 -- The replay of demand 3: what it keeps, and what each accepted call does to it. Nothing in the table, gauge or lines is read for it;
--- its start is told K. And, which is no part of it, what an accepted update leaves of stale tickets.
+-- its start is told K. And, which is no part of it, how a class's tickets become stale.
 use Rattle.std.specs.Prelude.{ℕ, ◌+◌, ◌-◌, List, ltb, eqb, if◌then◌else◌}
 use Rattle.std.proofs.Math.Option.{Option, none, some}
 use Rattle.rules.specs.Table.{half_down, most_total}
@@ -56,9 +56,15 @@ unfoldable pub fill_truth : Truth → ℕ → List ℕ → ℕ → Truth
 fill_truth t key lent ticket =
     record { total = t.total; heat = t.heat; picture = at key (some (filled_with lent ticket)) t.picture; fewest = t.fewest }
 
+-- | In the replay the class's true heat becomes 0. (Document 02)
+-- Of a class tracked or not; its picture stays.
+unfoldable pub withdraw_truth : Truth → ℕ → Truth
+withdraw_truth t key = record { total = t.total; heat = at key 0 t.heat; picture = t.picture; fewest = t.fewest }
+
 -- ---- tickets
 -- | a picture whose ticket was given by the last accepted update of its class, if any, or after it (document 02)
--- For each class, the tickets up to which every one was given before that update: an accepted update makes them the serial that it
--- found. No other call changes them.
-unfoldable pub update_stale : (ℕ → ℕ) → ℕ → ℕ → ℕ → ℕ
-update_stale stale key serial = at key serial stale
+-- For each class, the largest stale ticket: an accepted update of the class makes it the serial that it found, for every ticket up to that
+-- had been given before. So does an accepted withdrawal, which the paper does not ask: a class that is read again gets tickets of its own.
+-- No other call changes it.
+unfoldable pub make_stale : (ℕ → ℕ) → ℕ → ℕ → ℕ → ℕ
+make_stale stale key serial = at key serial stale

@@ -1,4 +1,4 @@
--- The steps of age, read, update, fill, show and the levelled sum, on a memory that no refusal holds for (Calls.antt).
+-- The steps of age, read, update, fill, withdraw, show and the levelled sum, on a memory that no refusal holds for (Calls.antt).
 use Rattle.std.specs.Prelude.{ℕ, ◌+◌, ◌≤◌, max, List, true, false, ltb, eqb, if◌then◌else◌, Some, None, Ok, Err}
 use Rattle.std.proofs.Math.Option.{Option, none, some}
 use Rattle.rules.specs.declared.Record.{Record}
@@ -6,12 +6,12 @@ use Rattle.rules.specs.declared.Gauge.{Gauge}
 use Rattle.rules.specs.declared.Lookup.{Lookup}
 use Rattle.rules.specs.declared.Lookup.TheVariants.{Untracked, Unlined, Lined}
 use Rattle.rules.specs.declared.Answer.{Answer}
-use Rattle.rules.specs.declared.Answer.TheVariants.{Aged, Changed, Unknown, Stored, Passed, Hit, Wanted}
+use Rattle.rules.specs.declared.Answer.TheVariants.{Aged, Changed, Unknown, Stored, Passed, Withdrawn, Hit, Wanted}
 use Rattle.rules.specs.declared.Refusal.TheVariants.{NoLine, AlreadyFilled, StaleTicket}
 use Rattle.rules.specs.Answers.{Reply}
 use Rattle.rules.specs.Bytes.{put_line}
 use Rattle.rules.specs.Pass.{Found, sum_of}
-use Rattle.rules.specs.Table.{Memory, is_free, is_lined, is_filled, line_of, with_ticket, with_total, with_ceiling, with_serial, aged_record, half_down, heated, cooled, new_record, unlined, on_empty_line, emptied, filled, key_record, free_record, victim, coldest_lined, hottest_unlined, hotter, lowest_unused, lookup, most_total, places, size, line_total, with_table, with_gauge, with_lines, write, change_all}
+use Rattle.rules.specs.Table.{Memory, is_free, is_lined, is_filled, line_of, with_ticket, with_total, with_ceiling, with_serial, aged_record, half_down, heated, cooled, new_record, unlined, freed, on_empty_line, emptied, filled, key_record, free_record, victim, coldest_lined, hottest_unlined, hotter, lowest_unused, lookup, most_total, places, size, line_total, with_table, with_gauge, with_lines, write, change_all}
 
 -- What a call does: its answer, and what it leaves of what it was lent.
 pub record Outcome (Answered Lent : Type 0) : Type 0 where
@@ -55,9 +55,13 @@ renew m i = write (ticketed m) i (with_ticket (next_ticket m) (places m i))
 unfoldable pub give_line : Memory → ℕ → ℕ → Memory
 give_line m i n = write (ticketed m) i (on_empty_line n (next_ticket m) (places m i))
 
+-- the record at place from becomes left, which has no line, and its line goes to the record at place to
+unfoldable pub hand_on : Memory → ℕ → Record → ℕ → Memory
+hand_on m from left to = give_line (write m from left) to (line_of (places m from))
+
 -- | it takes that record's line and that record's state becomes 1
 unfoldable pub hand_over : Memory → ℕ → ℕ → Memory
-hand_over m from to = give_line (write m from (unlined (places m from))) to (line_of (places m from))
+hand_over m from to = hand_on m from (unlined (places m from)) to
 
 -- ---- Read
 -- | 1. If total + w exceeds L, age first.
@@ -170,6 +174,25 @@ store m picture ticket (Lined i n false given) =
 -- | The key's record is looked up
 unfoldable pub fill_steps : Memory → ℕ → List ℕ → ℕ → Outcome Reply Memory
 fill_steps m key picture ticket = store m picture ticket (lookup (places m) (size m) key)
+
+-- ---- Withdraw (document 02)
+-- | A line it had goes, empty and with a new ticket, to the hottest tracked record left without one, first among equals, or becomes
+-- | unused.
+unfoldable pub vacate_for : Memory → ℕ → Found → Memory
+vacate_for m i None = write m i freed
+vacate_for m i (Some (j, r)) = hand_on m i freed j
+
+-- | Withdraw, a new call, frees its key's record.
+unfoldable pub vacate : Memory → ℕ → Memory
+vacate m i = if is_lined (places m i) then vacate_for m i (hottest_unlined (places m) (size m)) else write m i freed
+
+-- | Its answer is withdrawn .., or unknown for an untracked key
+unfoldable pub withdraw : Memory → Found → Outcome Reply Memory
+withdraw m None = outcome (Ok Unknown) m
+withdraw m (Some (i, r)) = outcome (Ok Withdrawn) (vacate m i)
+
+unfoldable pub withdraw_steps : Memory → ℕ → Outcome Reply Memory
+withdraw_steps m key = withdraw m (key_record key (places m) (size m))
 
 -- ---- Show
 -- | the line when the key's record is on a filled line, else the stand-in

@@ -99,6 +99,10 @@ new_record key ceiling w = record { key = key; heat = ceiling + w; slack = ceili
 unfoldable pub unlined : Record → Record
 unlined r = with_ticket 0 (with_state 1 r)
 
+-- | Withdraw, a new call, frees its key's record. (Document 02) Every free record is all zero
+unfoldable pub freed : Record
+freed = record { key = 0; heat = 0; slack = 0; state = 0; ticket = 0 }
+
 -- | A line just taken is empty. .. the serial .. becomes that record's ticket
 unfoldable pub on_empty_line : ℕ → ℕ → Record → Record
 on_empty_line n ticket r = with_ticket ticket (with_state (empty_state n) r)

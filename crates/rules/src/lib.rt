@@ -147,7 +147,7 @@ pub enum Lookup {
     },
 }
 
-// The answer of a read, update, fill or aging that is not refused.
+// The answer of a read, update, fill, aging or withdrawal that is not refused.
 #[derive(Clone, Copy, Debug, PartialEq, Eq)]
 pub enum Answer {
     Aged,
@@ -155,6 +155,7 @@ pub enum Answer {
     Unknown,
     Stored,
     Passed,
+    Withdrawn,
     Hit(u64),
     // With the ticket that its fill has to bring.
     Wanted { line: u64, ticket: u64 },
@@ -172,6 +173,7 @@ impl Answer {
             Answer::Unknown => "unknown",
             Answer::Stored => "stored",
             Answer::Passed => "passed",
+            Answer::Withdrawn => "withdrawn",
             Answer::Hit(_) => "hit",
             Answer::Wanted { .. } => "wanted",
         }
@@ -195,6 +197,9 @@ pub enum Entry {
         ticket: u64,
     },
     Age,
+    Withdraw {
+        key: u64,
+    },
 }
 
 // What reading the journal at a position gives: the entry, if there is one left and it is not refused, and the position after it.

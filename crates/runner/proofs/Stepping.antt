@@ -1,7 +1,7 @@
 -- The laws of one step of a run: a fill's picture lies in the journal, the journal's end leaves a run as it was, and a record carries
 -- it on by its row. Assumes nothing.
 use Prim.Native.Nat.{ℕ, suc, ◌+◌, ◌-◌, ◌≤◌}
-use mathlib.Core.Bool.{Bool, true, false, ◌&&◌}
+use mathlib.Core.Bool.{Bool, true, false}
 use mathlib.Core.List.{List}
 use mathlib.Core.Path.{◌≡◌, refl, sym, ap, subst}
 use mathlib.Core.Logic.{◌≢◌}
@@ -14,13 +14,13 @@ use Rattle.std.specs.Prelude.{Option, Some, None, Result, Ok, Err}
 use Rattle.rules.specs.declared.Refusal.{Refusal}
 use Rattle.rules.specs.declared.Refusal.TheVariants.{UnknownForm, ShortEnd}
 use Rattle.rules.specs.declared.Entry.{Entry}
-use Rattle.rules.specs.declared.Entry.TheVariants.{Read, Update, Fill, Age}
+use Rattle.rules.specs.declared.Entry.TheVariants.{Read, Update, Fill, Age, Withdraw}
 use Rattle.rules.specs.contracts.Entry.{the_type}
 use Rattle.rules.specs.Answers.{Reply, read_kind, update_kind, fill_kind, age_kind}
 use Rattle.std.specs.Prelude.{if◌then◌else◌}
 use Rattle.rules.specs.Table.{Memory}
 use Rattle.rules.specs.Steps.{Outcome}
-use Rattle.rules.specs.Journal.{Run, entry_size, kind_at, gaps_zero, picture_zero, weight_zero, key_zero, ticket_zero, key_at, weight_at, ticket_at, whole_entry, of_form, picture_place, decoded, entry_at, printed, row_of, printing, performed, carried, perform}
+use Rattle.rules.specs.Journal.{Run, entry_size, kind_at, key_at, weight_at, ticket_at, whole_entry, of_form, picture_place, decoded, entry_at, printed, row_of, printing, performed, carried, perform}
 use Rattle.runner.specs.declared.Progress.{Progress}
 use Rattle.rows.specs.Written.{row_size, written}
 use Rattle.runner.specs.Progress.{PictureInside, Runs, Steps}
@@ -52,16 +52,11 @@ module _ (journal : List ℕ) where
   whole_inside at room =
       let key = key_at journal at in
       let weight = weight_at journal at in
-      let gaps = gaps_zero journal at in
-      let blank = picture_zero journal at in
-      let bare = ticket_zero journal at in
-      either (eqb (kind_at journal at) read_kind) _ _ (formed (gaps && blank && bare) _ (no_fill (Read key weight) (omega arith)))
-      (either (eqb (kind_at journal at) update_kind) _ _ (formed (gaps && blank && bare) _ (no_fill (Update key weight) (omega arith)))
-      (either (eqb (kind_at journal at) fill_kind) _ _ (formed (gaps && weight_zero journal at) _ (fill key (ticket_at journal at)))
-      (formed
-      (eqb (kind_at journal at) age_kind && gaps && weight_zero journal at && blank && key_zero journal at && bare)
-      _
-      (no_fill Age (omega arith)))))
+      either (eqb (kind_at journal at) read_kind) _ _ (formed _ _ (no_fill (Read key weight) (omega arith)))
+      (either (eqb (kind_at journal at) update_kind) _ _ (formed _ _ (no_fill (Update key weight) (omega arith)))
+      (either (eqb (kind_at journal at) fill_kind) _ _ (formed _ _ (fill key (ticket_at journal at)))
+      (either (eqb (kind_at journal at) age_kind) _ _ (formed _ _ (no_fill Age (omega arith)))
+      (formed _ _ (no_fill (Withdraw key) (omega arith))))))
     where
       fill : (key ticket : ℕ) → PictureInside journal (Ok (Fill key (at + 16) ticket))
       fill key ticket = record { inside = λ k place t e. let same : at + 16 ≡ place = cc in omega arith }

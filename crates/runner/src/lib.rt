@@ -37,6 +37,7 @@ fn perform(
             cache::fill(table, *gauge, lines, key, bytes, ticket)
         }
         Entry::Age => cache::age(table, gauge, lines),
+        Entry::Withdraw { key } => cache::withdraw(table, gauge, lines, key),
     }
 }
 

@@ -1,4 +1,4 @@
-// What an accepted aging, read or update does.
+// What an accepted aging, read, update or withdrawal does.
 #![tactic(auto)]
 
 ghost use Rattle.std.specs.Prelude.{◌≡◌, ◌≤◌, ◌<◌, ◌^◌, Some, None, Ok};
@@ -6,12 +6,12 @@ ghost use Rattle.rules.specs.Bytes.{record_at, record_count};
 ghost use Rattle.rules.specs.Table.{most_total, aged_record, key_record, change_all};
 ghost use Rattle.rules.specs.Calls.{serial_limit, memory, SameLent};
 ghost use Rattle.rules.specs.Answers.{answer_number};
-ghost use Rattle.rules.specs.Steps.{outcome, aged, decay_for, track, evict, admission, place, read_counted, peek_answer, read_steps, update_steps};
+ghost use Rattle.rules.specs.Steps.{outcome, aged, decay_for, track, evict, admission, place, read_counted, peek_answer, read_steps, update_steps, withdraw_steps};
 ghost use Rattle.lines.specs.Room.{LinesFit};
 ghost use Rattle.steps.specs.Room.{HeatsFit, EachAged, Admits, admitted};
 
 use fields::{aged_record, cooled, emptied, heated, new_record, read_answer};
-use lines::{admit, demote};
+use lines::{admit, demote, vacate};
 use records::{change_record, put_record, record_at, record_count};
 use rules::{Answer, Hub, MOST_TOTAL, Record};
 use tracker::{key_record, some_place, walk};
@@ -163,7 +163,7 @@ pub fn read_steps(hub: &mut Hub, key: u64, weight: u16) -> Answer
 // ---- Update
 
 // An accepted update.
-#[tactic(auto, unfolding(rules::specs::Steps::update_steps, rules::specs::Steps::change, rules::specs::Table::places, rules::specs::Table::size, rules::specs::Answers::answer_number, rules::specs::Table::emptied, rules::specs::Table::is_lined, rules::specs::Table::empty_state, rules::specs::Table::line_of, rules::specs::Bytes::record_count, rules::specs::Table::cooled, rules::specs::Table::write, rules::specs::Table::with_table))]
+#[tactic(auto, unfolding(rules::specs::Steps::update_steps, rules::specs::Steps::change, rules::specs::Table::places, rules::specs::Table::size, rules::specs::Answers::answer_number, rules::specs::Table::emptied, rules::specs::Table::is_lined, rules::specs::Table::empty_state, rules::specs::Table::line_of, rules::specs::Bytes::record_count, rules::specs::Table::cooled, rules::specs::Table::write, rules::specs::Table::with_table), using(rules::proofs::Finds::key_inside))]
 pub fn update_steps(hub: &mut Hub, key: u64, weight: u64) -> Answer
     requires { hub.old.gauge.now.serial < serial_limit }
     ensures same_lent { SameLent hub.old hub.new }
@@ -177,4 +177,22 @@ pub fn update_steps(hub: &mut Hub, key: u64, weight: u64) -> Answer
     put_record(table, i, emptied(cooled(weight, was)));
     demote(hub, i);
     Answer::Changed
+}
+
+// ---- Withdraw
+
+// An accepted withdrawal.
+#[tactic(auto, unfolding(rules::specs::Steps::withdraw_steps, rules::specs::Steps::withdraw, rules::specs::Table::places, rules::specs::Table::size, rules::specs::Answers::answer_number), using(rules::proofs::Finds::key_inside))]
+pub fn withdraw_steps(hub: &mut Hub, key: u64) -> Answer
+    requires { hub.old.gauge.now.serial < serial_limit }
+    ensures same_lent { SameLent hub.old hub.new }
+    ensures outcome { outcome (Ok result) (memory hub.new) ≡ withdraw_steps (memory hub.old) key }
+    ensures answer_bound { answer_number result < 2 ^ 64 }
+{
+    let table = &mut *hub.table;
+    let Some((i, _)) = key_record(table, key) else {
+        return Answer::Unknown;
+    };
+    vacate(hub, i);
+    Answer::Withdrawn
 }

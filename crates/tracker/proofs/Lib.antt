@@ -1,4 +1,5 @@
 pub mod Claiming
 pub mod Marks
 pub mod Stops
+pub mod Hottest
 pub mod Walking

@@ -178,19 +178,30 @@ pub fn walk(table: &[u8], key: u64) -> Held
 
 // ---- searches that see every record
 
-// The hottest record without a line.
-#[tactic(auto, unfolding(rules::specs::Table::hottest_unlined, rules::specs::Table::hotter, rules::specs::Pass::best_of, rules::specs::Pass::best, rules::specs::Pass::pass))]
+// The first record without a line.
+fn first_unlined(table: &[u8]) -> Option<(usize, Record)>
+    ensures { result ≡ first_of is_unlined (record_at table.now) (record_count table.now) }
+{
+    first(table, is_unlined)
+}
+
+// The hottest record without a line: the first one, or one behind it. (Both tests of a record are made: no pattern tells the processor
+// which records are on lines, but few are hotter than the one that is held. Not inlined, as the walk is not.)
+#[tactic(auto, unfolding(rules::specs::Bytes::record_count), using(crate::proofs::Hottest::none_waits, crate::proofs::Hottest::first_waits, crate::proofs::Hottest::first_inside, crate::proofs::Hottest::hottest_is, crate::proofs::Hottest::hotter_moves, crate::proofs::Hottest::hotter_stays))]
+#[inline(never)]
 pub fn hottest_unlined(table: &[u8]) -> Option<(usize, Record)>
     ensures { result ≡ hottest_unlined (record_at table.now) (record_count table.now) }
 {
-    let mut held: Option<(usize, Record)> = None;
-    for i in 0..record_count(table) {
+    let (mut best, r) = first_unlined(table)?;
+    let mut most = r.heat;
+    for i in best + 1..record_count(table) {
         let r = record_at(table, i);
-        if is_unlined(r) && held.is_none_or(|(_, hottest)| hottest.heat < r.heat) {
-            held = Some((i, r));
+        if is_unlined(r) & (most < r.heat) {
+            best = i;
+            most = r.heat;
         }
     }
-    held
+    Some((best, record_at(table, best)))
 }
 
 // ---- the line that a record gets

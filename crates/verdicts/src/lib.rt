@@ -4,7 +4,7 @@
 ghost use Rattle.std.specs.Prelude.{◌≡◌, true, [], ◌∷◌, ◌≤◌};
 ghost use Rattle.rules.specs.Bytes.{record_at, record_count};
 ghost use Rattle.rules.specs.Table.{in_order};
-ghost use Rattle.rules.specs.Calls.{most_records, seen, sizes_good, verdict, sizes_test, order_test, serial_test, read_verdict, update_verdict, fill_verdict, plain_verdict};
+ghost use Rattle.rules.specs.Calls.{most_records, seen, sizes_good, verdict, sizes_test, order_test, serial_test, read_verdict, update_verdict, fill_verdict, withdraw_verdict, plain_verdict};
 
 use fields::{is_unlined, is_zero};
 use records::{LINE_SIZE, RECORD_SIZE, line_count, record_at, record_count};
@@ -125,5 +125,13 @@ pub fn fill_verdict(lent: View, picture: &[u8]) -> Result<(), Refusal>
     sizes_test(lent)?;
     must(picture.len() == LINE_SIZE, Refusal::WrongPicture)?;
     order_test(lent)?;
+    serial_test(lent.gauge.serial < SERIAL_LIMIT)
+}
+
+#[tactic(auto, unfolding(rules::specs::Calls::withdraw_verdict, rules::specs::Calls::plain_verdict, rules::specs::Calls::verdict, rules::specs::Calls::sizes_test, rules::specs::Calls::order_test, rules::specs::Calls::serial_test, rules::specs::Calls::serial_good))]
+pub fn withdraw_verdict(lent: View) -> Result<(), Refusal>
+    ensures { result ≡ withdraw_verdict (seen lent.entry) }
+{
+    plain_verdict(lent)?;
     serial_test(lent.gauge.serial < SERIAL_LIMIT)
 }

@@ -12,3 +12,7 @@ returns-in_err-kind c = λ j at e p. grind (arith, common_steps)
 pub returns-in_default-7 : goal.returns-in_default-7
 unfolding whole_entry of_form weight_zero key_zero ticket_zero
 returns-in_default-7 c = λ j at e p. elim c.if-ticket-eq0.branch [ then-ticket-eq0 w ↦ grind (arith, parts) | else-ticket-eq0 w ↦ grind (arith, parts) ]
+
+pub returns-in_default-9 : goal.returns-in_default-9
+unfolding whole_entry of_form weight_zero key_zero ticket_zero
+returns-in_default-9 c = λ j at e p. elim c.if-ticket-eq0.branch [ then-ticket-eq0 w ↦ grind (arith, parts) | else-ticket-eq0 w ↦ grind (arith, parts) ]
