@@ -1,9 +1,10 @@
-/* Times single reads, looks and updates by what they find in the table: the
- * library beside plain C, as the compiler lays it out and with padded jumps,
- * and beside an older library where -DOLDER links one.
+/* Times single reads, looks, updates and withdrawals by what they find in the
+ * table: the library beside plain C, as the compiler lays it out and with padded
+ * jumps, and beside an older library where -DOLDER links one.
  *
  * Prints a line for each case and K: case, K and nanoseconds a call of each
- * side, parted by '|'; exit 1 where two sides differ. */
+ * side, '-' where it has no such call, parted by '|'; exit 1 where two sides
+ * differ. */
 #include "clock.h"
 #include "cot.h"
 
@@ -20,48 +21,61 @@ typedef uint64_t read_call(uint8_t *, size_t, uint8_t *, size_t, const uint8_t *
                            uint64_t, uint64_t, uint8_t *, size_t);
 typedef uint64_t update_call(uint8_t *, size_t, uint8_t *, size_t, const uint8_t *, size_t,
                              uint64_t, uint64_t);
+typedef uint64_t withdraw_call(uint8_t *, size_t, uint8_t *, size_t, const uint8_t *, size_t,
+                               uint64_t);
 
 extern read_call plain_read, padded_read, older_read;
 extern update_call plain_update, padded_update, older_update;
+extern withdraw_call plain_withdraw, padded_withdraw;
+extern withdraw_call older_withdraw __attribute__((weak)); /* NULL where it has none */
 
 static const struct side {
     read_call *read;
     update_call *update;
+    withdraw_call *withdraw;
 } sides[] = {
-    { cot_read, cot_update },
-    { plain_read, plain_update },
-    { padded_read, padded_update },
+    { cot_read, cot_update, cot_withdraw },
+    { plain_read, plain_update, plain_withdraw },
+    { padded_read, padded_update, padded_withdraw },
 #ifdef OLDER
-    { older_read, older_update },
+    { older_read, older_update, older_withdraw },
 #endif
 };
 enum { SIDES = sizeof sides / sizeof *sides };
 
 struct memory {
     size_t table_len, lines_len;
+    size_t hottest; /* the place of the hottest without a line */
     uint8_t table[COT_MOST_RECORDS * COT_RECORD_BYTES];
     uint8_t gauge[COT_GAUGE_BYTES];
     uint8_t lines[COT_MOST_RECORDS * COT_LINE_BYTES];
     uint8_t ticket[COT_TICKET_BYTES];
 };
 
+enum kind { READ, UPDATE, WITHDRAW };
 enum key { NEW_KEYS, FIRST_ON_LINE, LAST_ON_LINE, HALF_WAY, LAST, NOWHERE };
 
 static const struct test {
     const char *name;
-    bool half_free, update;
-    uint64_t weight;
+    bool half_free;
+    enum kind kind;
+    uint64_t weight; /* of a withdrawal none */
     enum key key;
 } tests[] = {
-    { "read, untracked, none free", false, false, 1, NEW_KEYS },
-    { "read, untracked, half free", true, false, 1, NEW_KEYS },
-    { "read, first on a line", false, false, 1, FIRST_ON_LINE },
-    { "read, last on a line", false, false, 1, LAST_ON_LINE },
-    { "read, half-way, no line", false, false, 1, HALF_WAY },
-    { "read, last, no line", false, false, 1, LAST },
-    { "look, untracked", false, false, 0, NOWHERE },
-    { "look, untracked, half free", true, false, 0, NOWHERE },
-    { "update, untracked", false, true, 1, NOWHERE },
+    { "read, untracked, none free", false, READ, 1, NEW_KEYS },
+    { "read, untracked, half free", true, READ, 1, NEW_KEYS },
+    { "read, first on a line", false, READ, 1, FIRST_ON_LINE },
+    { "read, last on a line", false, READ, 1, LAST_ON_LINE },
+    { "read, half-way, no line", false, READ, 1, HALF_WAY },
+    { "read, last, no line", false, READ, 1, LAST },
+    { "look, untracked", false, READ, 0, NOWHERE },
+    { "look, untracked, half free", true, READ, 0, NOWHERE },
+    { "update, untracked", false, UPDATE, 1, NOWHERE },
+    { "update, first on a line", false, UPDATE, 1, FIRST_ON_LINE },
+    { "withdraw, untracked", false, WITHDRAW, 0, NOWHERE },
+    { "withdraw, first on a line", false, WITHDRAW, 0, FIRST_ON_LINE },
+    { "withdraw, last on a line", false, WITHDRAW, 0, LAST_ON_LINE },
+    { "withdraw, last, no line", false, WITHDRAW, 0, LAST },
 };
 enum { TESTS = sizeof tests / sizeof *tests };
 
@@ -86,7 +100,7 @@ static void put(uint8_t *p, uint64_t n)
 static void fill(struct memory *m, size_t k, bool half_free)
 {
     size_t taken = half_free ? k / 2 : k, lined = 0;
-    uint64_t total = 0;
+    uint64_t total = 0, most = 0;
 
     memset(m, 0, sizeof *m);
     m->table_len = k * COT_RECORD_BYTES;
@@ -98,8 +112,12 @@ static void fill(struct memory *m, size_t k, bool half_free)
         bool on_line = rest > 0 && lined < taken / 4 &&
                        (rest <= taken / 4 - lined || next_random() % 4 == 0);
 
-        if (on_line)
+        if (on_line) {
             heat += 100000;
+        } else if (heat > most) {
+            most = heat;
+            m->hottest = n;
+        }
         total += heat;
         put(r, n);
         put(r + HEAT, heat);
@@ -144,20 +162,45 @@ static uint64_t key_of(enum key key, const struct memory *m, uint64_t i)
     }
 }
 
+static uint64_t call(const struct side *side, const struct test *test, struct memory *m, uint64_t key)
+{
+    switch (test->kind) {
+    case UPDATE:
+        return side->update(m->table, m->table_len, m->gauge, COT_GAUGE_BYTES,
+                            m->lines, m->lines_len, key, test->weight);
+    case WITHDRAW:
+        return side->withdraw(m->table, m->table_len, m->gauge, COT_GAUGE_BYTES,
+                              m->lines, m->lines_len, key);
+    default:
+        return side->read(m->table, m->table_len, m->gauge, COT_GAUGE_BYTES,
+                          m->lines, m->lines_len, key, test->weight,
+                          m->ticket, COT_TICKET_BYTES);
+    }
+}
+
+/* Puts the record at place n back as it was. */
+static void put_back(const struct memory *start, struct memory *m, uint64_t n)
+{
+    memcpy(m->table + n * COT_RECORD_BYTES, start->table + n * COT_RECORD_BYTES, COT_RECORD_BYTES);
+}
+
+/* Before each withdrawal of a key the one before is undone: its own record and the one
+ * that may have got its line are put back. It counts with the call, on each side. */
 static double batch(const struct side *side, const struct test *test, const struct memory *start,
                     struct memory *m, int calls, const uint64_t *keys, uint64_t *answers)
 {
+    bool undo = test->kind == WITHDRAW && test->key != NOWHERE;
     double began;
 
     *m = *start;
     began = now();
-    for (int i = 0; i < calls; i++)
-        answers[i] = test->update
-            ? side->update(m->table, m->table_len, m->gauge, COT_GAUGE_BYTES,
-                           m->lines, m->lines_len, keys[i], test->weight)
-            : side->read(m->table, m->table_len, m->gauge, COT_GAUGE_BYTES,
-                         m->lines, m->lines_len, keys[i], test->weight,
-                         m->ticket, COT_TICKET_BYTES);
+    for (int i = 0; i < calls; i++) {
+        if (undo) {
+            put_back(start, m, keys[i]); /* key n is at place n */
+            put_back(start, m, start->hottest);
+        }
+        answers[i] = call(side, test, m, keys[i]);
+    }
     return (now() - began) / calls;
 }
 
@@ -168,27 +211,29 @@ static bool run(const struct test *test, size_t k)
     uint64_t keys[MOST_CALLS], answers[SIDES][MOST_CALLS];
     /* Of the free records of a table half free, no more than half are taken. */
     int calls = test->half_free && k / 4 < MOST_CALLS ? (int)k / 4 : MOST_CALLS;
+    /* The older side comes last, and may not have the call. */
+    int count = test->kind == WITHDRAW && !sides[SIDES - 1].withdraw ? SIDES - 1 : SIDES;
     double best[SIDES];
 
     fill(&start, k, test->half_free);
     for (int i = 0; i < calls; i++)
         keys[i] = key_of(test->key, &start, (uint64_t)i);
-    for (int s = 0; s < SIDES; s++)
+    for (int s = 0; s < count; s++)
         best[s] = INFINITY;
     for (int round = 0; round < ROUNDS; round++)
-        for (int s = 0; s < SIDES; s++) {
-            int turn = (s + round) % SIDES;
+        for (int s = 0; s < count; s++) {
+            int turn = (s + round) % count;
             best[turn] = fmin(best[turn], batch(&sides[turn], test, &start, &m[turn], calls, keys, answers[turn]));
         }
     printf("%s|%zu", test->name, k);
-    for (int s = 0; s < SIDES; s++) {
+    for (int s = 0; s < count; s++) {
         if (memcmp(&m[s], &m[0], sizeof *m) != 0 || memcmp(answers[s], answers[0], (size_t)calls * sizeof **answers) != 0) {
             fprintf(stderr, "two sides differ: %s at K = %zu\n", test->name, k);
             return false;
         }
         printf("|%.1f", best[s]);
     }
-    puts("");
+    puts(count < SIDES ? "|-" : "");
     return true;
 }
 

@@ -60,7 +60,9 @@ awk -F'|' '
             row = rows[r]
             split(row, part, "|")
             printf "| %-27s | %4d | %10.1f |", part[1], part[2], best[row, 3]
-            for (i = 4; i < 3 + sides[row]; i++) printf " %9.1f | %5.2f |", best[row, i], best[row, 3] / best[row, i]
+            for (i = 4; i < 3 + sides[row]; i++)
+                if (best[row, i]) printf " %9.1f | %5.2f |", best[row, i], best[row, 3] / best[row, i]
+                else printf " %9s | %5s |", "-", "-"
             print ""
         }
     }' "$out"/cases-{16,32,48,64}.txt

@@ -20,7 +20,7 @@ enum {
     BAD_PICTURE = 4, NO_LINE = 5, LINE_FILLED = 6,
     OTHER_TICKET = 9, NO_SERIAL = 10,
     DONE = 0, AGED = 100, CHANGED = 101, UNKNOWN = 102, STORED = 103, PASSED = 104,
-    HIT = 2000, WANTED = 4000
+    WITHDRAWN = 105, HIT = 2000, WANTED = 4000
 };
 
 static const uint64_t MAX_TOTAL = 4294967295; /* L */
@@ -141,11 +141,12 @@ static uint8_t *hottest_without_line(uint8_t *table, size_t table_len)
     return hottest;
 }
 
-/* Gives record r the next serial as its ticket. */
-static void new_ticket(uint8_t *gauge, uint8_t *r)
+/* Gives record r a line, empty, and the next serial as its ticket. */
+static void give_line(uint8_t *gauge, uint8_t *r, uint64_t line)
 {
     uint64_t serial = get(gauge + SERIAL) + 1;
 
+    put(r + STATE, empty_line(line));
     put(gauge + SERIAL, serial);
     put(r + TICKET, serial);
 }
@@ -153,8 +154,7 @@ static void new_ticket(uint8_t *gauge, uint8_t *r)
 /* Moves the line of record `from`, empty and with a new ticket, to record `to`. */
 static void hand_over(uint8_t *gauge, uint8_t *from, uint8_t *to)
 {
-    put(to + STATE, empty_line(line_of(get(from + STATE))));
-    new_ticket(gauge, to);
+    give_line(gauge, to, line_of(get(from + STATE)));
     put(from + STATE, TRACKED);
     put(from + TICKET, 0);
 }
@@ -181,12 +181,10 @@ static void claim_line(uint8_t *table, size_t table_len, uint8_t *gauge,
         }
     }
     unused = memchr(used + 1, 0, lines);
-    if (unused) {
-        put(r + STATE, empty_line((uint64_t)(unused - (used + 1))));
-        new_ticket(gauge, r);
-    } else if (coldest && get(r + HEAT) > least) {
+    if (unused)
+        give_line(gauge, r, (uint64_t)(unused - (used + 1)));
+    else if (coldest && get(r + HEAT) > least)
         hand_over(gauge, coldest, r);
-    }
 }
 
 static void halve(uint8_t *table, size_t table_len, uint8_t *gauge)
@@ -307,12 +305,10 @@ uint64_t plain_update(uint8_t *table, size_t table_len,
     if (!on_line(state))
         return CHANGED;
     hottest = hottest_without_line(table, table_len);
-    if (hottest && get(hottest + HEAT) > heat) {
+    if (hottest && get(hottest + HEAT) > heat)
         hand_over(gauge, r, hottest);
-    } else {
-        put(r + STATE, empty_line(line_of(state)));
-        new_ticket(gauge, r);
-    }
+    else
+        give_line(gauge, r, line_of(state));
     return CHANGED;
 }
 
@@ -346,6 +342,33 @@ uint64_t plain_fill(uint8_t *table, size_t table_len,
     memcpy(lines + LINE_BYTES * line_of(state), picture, LINE_BYTES);
     put(r + STATE, state + 1);
     return STORED;
+}
+
+uint64_t plain_withdraw(uint8_t *table, size_t table_len,
+                        uint8_t *gauge, size_t gauge_len,
+                        const uint8_t *lines, size_t lines_len,
+                        uint64_t key)
+{
+    uint8_t *r, *hottest;
+    uint64_t state;
+
+    (void)lines;
+    if (!sizes_fit(table_len, gauge_len, lines_len))
+        return BAD_SIZE;
+    if (!in_order(table, table_len, gauge, lines_len))
+        return BAD_ORDER;
+    if (used_up(gauge))
+        return NO_SERIAL;
+
+    r = find(table, table_len, key);
+    if (!r)
+        return UNKNOWN;
+    state = get(r + STATE);
+    memset(r, 0, RECORD_BYTES);
+    hottest = on_line(state) ? hottest_without_line(table, table_len) : NULL;
+    if (hottest)
+        give_line(gauge, hottest, line_of(state));
+    return WITHDRAWN;
 }
 
 uint64_t plain_age(uint8_t *table, size_t table_len,

@@ -30,6 +30,11 @@ uint64_t plain_fill(uint8_t *table, size_t table_len,
                     const uint8_t *picture, size_t picture_len,
                     uint64_t ticket);
 
+uint64_t plain_withdraw(uint8_t *table, size_t table_len,
+                        uint8_t *gauge, size_t gauge_len,
+                        const uint8_t *lines, size_t lines_len,
+                        uint64_t key);
+
 uint64_t plain_age(uint8_t *table, size_t table_len,
                    uint8_t *gauge, size_t gauge_len,
                    const uint8_t *lines, size_t lines_len);
