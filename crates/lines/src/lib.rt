@@ -42,10 +42,8 @@ fn renew(hub: &mut Hub, i: usize)
     change_record(hub.table, i, |r| Record { ticket, ..r });
 }
 
-// The record at place i takes a line, empty, with a new ticket. (Not inlined: it is rarely run, and the loops of those who call it have
-// better places in memory without it.)
+// The record at place i takes a line, empty, with a new ticket.
 #[tactic(auto, unfolding(rules::specs::Table::empty_state, rules::specs::Steps::give_line, rules::specs::Steps::ticketed, rules::specs::Table::write, rules::specs::Table::with_table, rules::specs::Table::with_gauge, rules::specs::Table::places))]
-#[inline(never)]
 fn give_line(hub: &mut Hub, i: usize, line: usize)
     requires { (i < record_count hub.old.table.now) × (empty_state line < 2 ^ 64) × (hub.old.gauge.now.serial < serial_limit) }
     ensures same_lent { SameLent hub.old hub.new }
@@ -122,8 +120,10 @@ pub fn demote(hub: &mut Hub, i: usize)
     }
 }
 
-// The record at place i is freed. A line that it had goes to the hottest record without one, or becomes unused.
+// The record at place i is freed. A line that it had goes to the hottest record without one, or becomes unused. (Not inlined: it is rarely
+// run, and the loops of the exports have better places in memory without it.)
 #[tactic(auto, unfolding(rules::specs::Steps::vacate, rules::specs::Steps::vacate_for, rules::specs::Table::freed, rules::specs::Table::write, rules::specs::Table::with_table, rules::specs::Table::places, rules::specs::Table::size), using(rules::proofs::Finds::hottest_inside))]
+#[inline(never)]
 pub fn vacate(hub: &mut Hub, i: usize)
     requires { (i < record_count hub.old.table.now) × (hub.old.gauge.now.serial < serial_limit) }
     ensures same_lent { SameLent hub.old hub.new }
