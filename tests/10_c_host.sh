@@ -1,6 +1,6 @@
 #!/bin/sh
 # The C host: the header as C and as C++, examples/host.c, and document 01's sample calls with the
-# edges, looks, tickets, withdrawals, fresh and levelled sums.
+# edges, looks, tickets, withdrawals, equals, fresh and levelled sums.
 set -eu
 cd "$(dirname "$0")/.."
 

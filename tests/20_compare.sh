@@ -44,5 +44,12 @@ fault ticket-on-hit 'single call.* difference: ticket byte [0-7] is '
 fault any-ticket 'list.* difference: returned 9, the model 103'
 # The call below the difference is a withdrawal.
 fault free-takes-line '^  withdrawal of key [0-9]*$'
+# Another victim: the answer is the same, and the new key is in another record.
+fault victim-by-heat 'single call.* difference: table byte [0-9]* (record [0-9]*, key) is '
+fault victim-least-slack 'single call.* difference: table byte [0-9]* (record [0-9]*, key) is '
+fault victim-low-half 'single call.* difference: table byte [0-9]* (record [0-9]*, key) is '
+# Another's line is taken.
+fault coldest-by-slack 'single call.* difference: returned 4[0-9][0-9][0-9], the model 4[0-9][0-9][0-9]'
 echo "20_compare: no difference; the deliberate faults admit-equal, fresh-keeps, sum-heat," \
-    "look-warms, keeps-ticket, ticket-on-hit, any-ticket and free-takes-line are found"
+    "look-warms, keeps-ticket, ticket-on-hit, any-ticket, free-takes-line, victim-by-heat," \
+    "victim-least-slack, victim-low-half and coldest-by-slack are found"

@@ -1,5 +1,5 @@
 /* sample.c: document 01's thirteen sample calls, the edges for K = 3, C = 1, document 02's looks,
- * tickets and withdrawals, fresh, levelled sums and the helpers of cot.h.
+ * tickets, withdrawals and equals, fresh, levelled sums and the helpers of cot.h.
  *
  * Prints each returned number, with the line of a hit or a wanted and the ticket of a wanted, and
  * the gauge after the call. A refused call must leave all lent memory as it was, and a read that
@@ -592,6 +592,43 @@ static void withdrawals(void)
     call_withdraw("withdraw of key 0 again", 0);
 }
 
+static void equals(void)
+{
+    /* "Among equally cold records without a line, the victim is now the one with the largest
+     * slack, then the first." */
+    fresh();
+    lines_len = 0;
+    put_gauge(20, 3);
+    put_record(0, 12, 5, 1, 1);
+    put_record(1, 11, 5, 3, 1);
+    put_record(2, 13, 5, 3, 1);
+    call_read("24 evicts 11", 24, 9);
+    call_read("25 evicts 13", 25, 9);
+    call_read("26 evicts 12", 26, 9);
+    show_records();
+
+    /* A colder one leaves before them, and slacks are compared in all of their bits. */
+    fresh();
+    lines_len = 0;
+    put_gauge(20, 3);
+    put_record(0, 12, 5, 4294967295, 1);
+    put_record(1, 11, 5, UINT64_MAX, 1);
+    put_record(2, 13, 4, 0, 1);
+    call_read("24 evicts 13", 24, 9);
+    call_read("25 evicts 11", 25, 9);
+    show_records();
+
+    /* "The coldest on the lines is still chosen as before": the first. */
+    fresh();
+    lines_len = 128;
+    put_gauge(20, 3);
+    put_record(0, 12, 5, 1, 3);
+    put_record(1, 11, 5, 3, 5);
+    put_record(2, 13, 5, 2, 1);
+    call_read("13 takes the line of 12", 13, 1);
+    show_records();
+}
+
 static void serials(void)
 {
     /* The last ticket that is given. */
@@ -745,6 +782,7 @@ int main(void)
     looks();
     tickets();
     withdrawals();
+    equals();
     serials();
     limits();
     not_in_order();

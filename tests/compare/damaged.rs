@@ -245,6 +245,39 @@ const SERIALS: [&str; 27] = [
     "age aged: serial 2^64 - 1",
 ];
 
+/// What reads must meet about equally cold records and their slacks. The slacks compared are the
+/// largest of those and the next.
+const VICTIMS: [&str; 28] = [
+    "ties by heat off the lines, slack decides",
+    "ties by heat and slack off the lines",
+    "ties by heat on the lines with different slacks where a read takes the coldest's line",
+    "ties by heat on the lines and off them, slack decides, a read takes the coldest's line",
+    "all off the lines tie by heat and slack, over 20",
+    "slack decides: K = 2",
+    "slack decides: K over 200",
+    "slack decides: K = 1,024",
+    "slack decides: victim in the first record",
+    "slack decides: victim in the last record",
+    "slack decides: of two",
+    "slack decides: of over 40",
+    "slack decides: 1 and 0",
+    "slack decides: 2^64 - 1 and 2^64 - 2",
+    "slack decides: 2^64 - 1 and 0",
+    "slack decides: 2^63 and 2^63 - 1",
+    "slack decides: 2^32 and under",
+    "slack decides: in the lowest bit alone",
+    "slack decides: in the highest bit alone",
+    "slack decides: in the high 32 bits alone",
+    "slack decides: against the low 32 bits",
+    "slack decides: victim at the ceiling, its slack over it",
+    "a warmer one off the lines with more slack than the victim",
+    "one on a line as cold as the victim or colder, with more slack",
+    "ties by heat off the lines with different slacks, tracked key",
+    "ties by heat off the lines with different slacks, free record",
+    "aged first: ties by heat only since then, slack decides",
+    "aged first: ties by slack only since then",
+];
+
 /// The name under which a call is counted.
 fn kind_name(call: &Call) -> &'static str {
     match call {
@@ -396,6 +429,9 @@ pub fn run(seed: u64, calls: u64, model: &Model, counts: &mut Counts) -> Result<
                 Call::Fresh => count_fresh(&case, found, &path, counts),
                 Call::LevelledSum => count_sum(&case, found, &path, counts),
                 _ => {
+                    if !is_refused(found) {
+                        count_victims(&case, &path, counts);
+                    }
                     // A withdrawal must meet each part of 1 and 3 itself.
                     let withdrawal = matches!(call, Call::Withdraw { .. });
                     for step in path {
@@ -417,7 +453,7 @@ pub fn run(seed: u64, calls: u64, model: &Model, counts: &mut Counts) -> Result<
     let alone = SIZES.iter().chain(&ORDER).chain(&CAUSES);
     let steps = STEPS.iter().chain(&STEPS_AT_THE_LIMIT);
     let rest = ANSWERS.iter().chain(&FRESH_AND_SUM).chain(&INPUTS);
-    let rest = rest.chain(&SERIALS);
+    let rest = rest.chain(&SERIALS).chain(&VICTIMS);
     names.extend(alone.chain(steps).chain(rest).map(|name| name.to_string()));
     for name in names {
         if counts.of(&name) == 0 {
@@ -687,6 +723,136 @@ fn count_inputs(case: &Case, found: u64, counts: &mut Counts) {
     }
 }
 
+/// Counts what an accepted read met about equally cold records and their slacks.
+fn count_victims(case: &Case, path: &Path, counts: &mut Counts) {
+    let Call::Read { key, weight: 1.. } = &case.call else {
+        return;
+    };
+    let mut count = |name: &str, holds: bool| counts.add_if(name, holds);
+    let before = records_of(&case.table);
+    let (_, mut ceiling, _) = gauge_of(&case.gauge);
+    let mut records = before.clone();
+    let aged = path.contains(&"read 1: aged first");
+    if aged {
+        ceiling /= 2;
+        for record in &mut records {
+            record.heat /= 2;
+            record.slack = record.slack.div_ceil(2);
+        }
+    }
+    let tracked = records.iter().any(|r| r.key == *key && !r.is_free());
+    let free = records.iter().any(Record::is_free);
+
+    // The equally cold ones on the lines.
+    let coldest = heats_on_lines(&records).min();
+    let equals = records.iter().filter(|r| r.line().is_some());
+    let equals = equals.filter(|r| Some(r.heat) == coldest);
+    let on_lines: Vec<u64> = equals.map(|r| r.slack).collect();
+    let differ = |slacks: &[u64]| slacks.iter().any(|slack| *slack != slacks[0]);
+    let taken = path.contains(&"read 5: takes the coldest's line") && differ(&on_lines);
+    count(
+        "ties by heat on the lines with different slacks where a read takes the coldest's line",
+        taken,
+    );
+
+    // The equally cold ones off the lines, with their places.
+    let off_lines: Vec<usize> = (0..records.len())
+        .filter(|place| records[*place].state == TRACKED)
+        .collect();
+    let Some(heat) = off_lines.iter().map(|place| records[*place].heat).min() else {
+        return;
+    };
+    let mut equals = off_lines.clone();
+    equals.retain(|place| records[*place].heat == heat);
+    let slacks: Vec<u64> = equals.iter().map(|place| records[*place].slack).collect();
+    count(
+        "ties by heat off the lines with different slacks, tracked key",
+        tracked && differ(&slacks),
+    );
+    count(
+        "ties by heat off the lines with different slacks, free record",
+        !tracked && free && differ(&slacks),
+    );
+    if tracked || free {
+        return;
+    }
+
+    let largest = *slacks.iter().max().expect("one is equally cold");
+    let has_largest = |place: &&usize| records[**place].slack == largest;
+    let last: Vec<usize> = equals.iter().filter(has_largest).copied().collect();
+    let victim = last[0];
+    count("ties by heat and slack off the lines", last.len() > 1);
+    let many = off_lines.len() > 20;
+    count(
+        "all off the lines tie by heat and slack, over 20",
+        many && last.len() == off_lines.len(),
+    );
+    count(
+        "a warmer one off the lines with more slack than the victim",
+        off_lines
+            .iter()
+            .any(|place| records[*place].slack > largest),
+    );
+    let on_line = |r: &Record| r.line().is_some() && r.heat <= heat && r.slack > largest;
+    count(
+        "one on a line as cold as the victim or colder, with more slack",
+        records.iter().any(on_line),
+    );
+    let tied = |from: &dyn Fn(&Record) -> u64, places: &[usize]| {
+        let first = from(&before[places[0]]);
+        places.iter().all(|place| from(&before[*place]) == first)
+    };
+    count(
+        "aged first: ties by slack only since then",
+        aged && last.len() > 1 && !tied(&|r| r.slack, &last),
+    );
+
+    let Some(next) = slacks.iter().copied().filter(|s| *s < largest).max() else {
+        return;
+    };
+    count("ties by heat off the lines, slack decides", true);
+    count(
+        "ties by heat on the lines and off them, slack decides, a read takes the coldest's line",
+        taken,
+    );
+    count(
+        "aged first: ties by heat only since then, slack decides",
+        aged && !tied(&|r| r.heat, &equals),
+    );
+    let k = records.len();
+    let low = |slack: u64| slack % (1 << 32);
+    for (name, holds) in [
+        ("K = 2", k == 2),
+        ("K over 200", k > 200),
+        ("K = 1,024", k == 1_024),
+        ("victim in the first record", victim == 0),
+        ("victim in the last record", victim == k - 1),
+        ("of two", equals.len() == 2),
+        ("of over 40", equals.len() > 40),
+        ("1 and 0", (largest, next) == (1, 0)),
+        (
+            "2^64 - 1 and 2^64 - 2",
+            (largest, next) == (u64::MAX, u64::MAX - 1),
+        ),
+        ("2^64 - 1 and 0", (largest, next) == (u64::MAX, 0)),
+        (
+            "2^63 and 2^63 - 1",
+            (largest, next) == (1 << 63, (1 << 63) - 1),
+        ),
+        ("2^32 and under", largest == 1 << 32),
+        ("in the lowest bit alone", largest ^ next == 1),
+        ("in the highest bit alone", largest ^ next == 1 << 63),
+        ("in the high 32 bits alone", low(largest) == low(next)),
+        ("against the low 32 bits", low(largest) < low(next)),
+        (
+            "victim at the ceiling, its slack over it",
+            heat == ceiling && largest > ceiling,
+        ),
+    ] {
+        count(&format!("slack decides: {name}"), holds);
+    }
+}
+
 fn doubled(mut numbers: Vec<u64>) -> bool {
     numbers.sort_unstable();
     numbers.windows(2).any(|pair| pair[0] == pair[1])
@@ -870,6 +1036,7 @@ fn good_records(
         few.push(random.between(low, total.min(low + 9)));
     }
     let many_equals = random.chance(50);
+    let slacks = few_slacks(random);
 
     let mut lines: Vec<u64> = (0..c as u64).collect();
     for place in (1..lines.len()).rev() {
@@ -907,7 +1074,11 @@ fn good_records(
                 (false, 1) => 0,
                 _ => random.between(0, total),
             },
-            slack: some_slack(random),
+            slack: if slacks.is_empty() {
+                some_slack(random)
+            } else {
+                random.pick(&slacks)
+            },
             state,
             ticket: 0,
         });
@@ -920,25 +1091,67 @@ fn good_records(
             record.heat = heat;
         }
     }
+    // Often many are as cold as the coldest, on the lines or off them; at times only an aging makes
+    // them so.
+    let (on_lines, off_lines) = records[free..].split_at_mut(on_lines);
+    for (records, percent) in [(on_lines, 25), (off_lines, 40)] {
+        let coldest = records.iter().map(|record| record.heat).min();
+        if let (Some(coldest), true) = (coldest, random.chance(percent)) {
+            let (share, until_aged) = (random.pick(&[30, 80, 100]), random.chance(30));
+            for record in records {
+                if random.chance(share) {
+                    let more = if until_aged { random.below(2) } else { 0 };
+                    record.heat = total.min(coldest + more);
+                }
+            }
+        }
+    }
     for place in (1..records.len()).rev() {
         records.swap(place, random.place(place + 1));
     }
     records
 }
 
+/// The few slacks of a table, equal or nearly so; none if each record has any.
+fn few_slacks(random: &mut Random) -> Vec<u64> {
+    let first = some_slack(random);
+    let mut few = vec![first];
+    match random.below(13) {
+        0..=3 => few.clear(),
+        // All are equal.
+        4..=5 => {}
+        6 => few.push(first ^ 1),
+        7 => few.push(first ^ (1 << random.below(64))),
+        8 => few.push(first ^ (1 << 63)),
+        9 => few.push(first ^ (random.next() << 32)),
+        10 => few.extend([first.wrapping_add(1), first.wrapping_sub(1)]),
+        11 => few.extend([some_slack(random), some_slack(random)]),
+        _ => few.extend([0, 1, u64::MAX - 1]),
+    }
+    few
+}
+
 fn some_slack(random: &mut Random) -> u64 {
+    const EDGES: [u64; 6] = [
+        u64::MAX - 1,
+        1 << 63,
+        (1 << 63) - 1,
+        (1 << 32) + 1,
+        1 << 32,
+        (1 << 32) - 1,
+    ];
     match random.below(8) {
         0 => 0,
         1 => 1,
         2 => u64::MAX,
-        3 => random.pick(&[u64::MAX - 1, 1 << 63, (1 << 63) - 1, (1 << 32) - 1]),
+        3 => random.pick(&EDGES),
         4..=5 => random.between(0, 9),
         _ => random.next(),
     }
 }
 
-/// A call that fits the records: of a key in the table or not, with a weight that often makes two
-/// heats equal or nearly so. About one read in seven is a look.
+/// A call that fits the records: of a key in the table or, more often in a read, of one that is not,
+/// with a weight that often makes two heats equal or nearly so. About one read in seven is a look.
 fn some_call(
     records: &[Record],
     ceiling: u64,
@@ -953,8 +1166,13 @@ fn some_call(
         3..=6 => random.pick(keys),
         _ => random.pick(records).key,
     };
+    let kind = random.below(24);
+    let key = match kind {
+        0..=8 if random.chance(30) => random.next(),
+        _ => key,
+    };
     let own = records.iter().find(|r| r.key == key && !r.is_free());
-    match random.below(24) {
+    match kind {
         0..=8 => {
             // The heat to reach, and the heat that the weight is added to.
             let aim = heats_on_lines(records).min();

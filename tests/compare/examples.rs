@@ -1,5 +1,5 @@
 //! Group (d): the examples of document 01 that concern the exported calls, with the sizes and tickets
-//! of document 02, levelled sums worked out by hand, and document 02's Asks 1, 2 and 4 on tables
+//! of document 02, levelled sums worked out by hand, and document 02's Asks 1, 2, 4 and 5 on tables
 //! worked out by hand. Each test has the document's sentence. The examples with journals concern the
 //! program `replay` only.
 
@@ -42,7 +42,17 @@ const WITHDRAWN: &str = "Its answer is withdrawn (105 when exported), or unknown
 const STRUCK: &str = "In the replay the class's true heat becomes 0. Lists with withdrawals must \
                       satisfy every part of demand 3; a withdrawal leaves the ceiling.";
 
-pub const EXAMPLES: [Example; 40] = [
+/// Document 02's sentences on the victim, on the coldest on the lines, and on the sample journal.
+const LONG_KNOWN: &str = "Arcades run many tokens with equal heat, and the long-known one was \
+                          thrown out.";
+const EQUALLY_COLD: &str =
+    "Among equally cold records without a line, the victim is now the one with the largest slack, \
+     then the first.";
+const ON_LINES: &str = "The coldest on the lines is still chosen as before.";
+const ROW_12: &str = "Row 12 of the sample journal now evicts class 11, and its printed line is \
+                      the same.";
+
+pub const EXAMPLES: [Example; 52] = [
     (
         "thirteen rows",
         "Journal: read 5 w 3; fill 5; ... read 9 w 1. Output, whole: 1 wanted 3 0 ... 13 wanted 8 1",
@@ -160,6 +170,40 @@ pub const EXAMPLES: [Example; 40] = [
     ("withdraw: old ticket", WITHDRAW, late_fetch_of_a_withdrawn_class),
     ("withdraw: read again", STRUCK, withdrawn_and_read_again),
     ("withdraw: true heat", STRUCK, true_heat_of_a_withdrawn_class),
+    ("equals: row 12", ROW_12, row_twelve),
+    ("equals: long-known", LONG_KNOWN, long_known_stays),
+    ("equals: slack", EQUALLY_COLD, largest_slack_leaves),
+    ("equals: heat first", EQUALLY_COLD, heat_before_slack),
+    ("equals: first", EQUALLY_COLD, first_of_equal_slack),
+    ("equals: every place", EQUALLY_COLD, largest_slack_in_every_place),
+    ("equals: on a line", EQUALLY_COLD, no_victim_on_a_line),
+    (
+        "equals: aged first",
+        "If total + w exceeds L, age first.",
+        victim_after_an_aging,
+    ),
+    (
+        "equals: free record",
+        "Untracked key with a free record: the first free one gets key, heat ceiling + w, slack \
+         ceiling, state 1.",
+        free_record_before_a_victim,
+    ),
+    (
+        "equals: tracked key",
+        "Tracked key: its heat grows by w.",
+        no_victim_for_a_tracked_key,
+    ),
+    (
+        "equals: coldest on the lines",
+        ON_LINES,
+        first_of_the_coldest_on_lines,
+    ),
+    (
+        "equals: hottest off the lines",
+        "If it has a line and the hottest record without one (first among equals) is now strictly \
+         hotter, that record takes the line, empty, and the key's state becomes 1.",
+        first_of_the_hottest_off_lines,
+    ),
 ];
 
 /// The memory and, for a list from fresh, the replay.
@@ -268,6 +312,25 @@ impl<'a> Desk<'a> {
             return Err(format!("gauge is {found:?}, and {due:?} is due"));
         }
         Ok(())
+    }
+
+    /// A read of weight 1 of class 13, which is untracked, must take the place of the victim, which
+    /// is the one at the place given. All else stays, and no line is taken.
+    fn evicts(&mut self, victim: usize) -> Result<(), String> {
+        let before = records_of(self.both.librarys.table.bytes());
+        let (total, ceiling, serial) = gauge_of(self.both.librarys.gauge.bytes());
+        let level = ceiling.max(before[victim].heat);
+        self.gives(104, read(13, 1))?;
+        for (place, before) in before.into_iter().enumerate() {
+            let evicted = place == victim;
+            let due = if evicted {
+                plain(13, level + 1, level)
+            } else {
+                before
+            };
+            self.record(place, due)?;
+        }
+        self.gauge(total + 1, level, serial)
     }
 
     /// The record at a place must be as given.
@@ -389,9 +452,9 @@ fn thirteen_rows(model: &Model, seed: u64) -> Result<(), String> {
     let mut desk = Desk::fresh(model, seed, 3, 1)?;
     desk.rows(13)?;
     desk.record(0, plain(5, 2, 0))?;
-    desk.record(1, record(9, 3, 1, 2, 4))?;
-    desk.record(2, plain(11, 1, 1))?;
-    // 2 + 3 + 1: no heat is below the ceiling, 1.
+    desk.record(1, plain(7, 1, 0))?;
+    desk.record(2, record(9, 3, 1, 2, 4))?;
+    // 2 + 1 + 3: no heat is below the ceiling, 1.
     desk.sum(6)
 }
 
@@ -487,10 +550,10 @@ fn equal_heat(model: &Model, seed: u64) -> Result<(), String> {
 fn slack_rounded_up(model: &Model, seed: u64) -> Result<(), String> {
     let mut desk = Desk::fresh(model, seed, 3, 1)?;
     desk.rows(12)?;
-    desk.record(1, plain(9, 2, 1))?;
+    desk.record(2, plain(9, 2, 1))?;
     desk.true_heat(9, 1)?;
     desk.gives(100, Call::Age)?;
-    desk.record(1, plain(9, 1, 1))?;
+    desk.record(2, plain(9, 1, 1))?;
     desk.true_heat(9, 0)
 }
 
@@ -1391,4 +1454,337 @@ fn true_heat_of_a_withdrawn_class(model: &Model, seed: u64) -> Result<(), String
     desk.record(1, record(7, 5, 0, 2, 2))?;
     desk.record(2, plain(11, 3, 2))?;
     desk.gauge(12, 2, 2)
+}
+
+fn row_twelve(model: &Model, seed: u64) -> Result<(), String> {
+    let on_line = record(5, 2, 0, 2, 3);
+    let rows_left = || {
+        let mut desk = Desk::fresh(model, seed, 3, 1)?;
+        desk.rows(11)?;
+        // Classes 7 and 11 are equally cold, and 7 is the first.
+        desk.record(0, on_line)?;
+        desk.record(1, plain(7, 1, 0))?;
+        desk.record(2, plain(11, 1, 1))?;
+        desk.gauge(6, 1, 3)?;
+        desk.gives(104, read(9, 1))?;
+        desk.gauge(7, 1, 3)?;
+        desk.record(0, on_line)?;
+        desk.record(1, plain(7, 1, 0))?;
+        desk.record(2, plain(9, 2, 1))?;
+        Ok::<Desk, String>(desk)
+    };
+    // Row 13: class 9 takes the line of class 5.
+    let mut desk = rows_left()?;
+    desk.wanted(4, read(9, 1))?;
+    desk.gauge(8, 1, 4)?;
+    desk.record(0, plain(5, 2, 0))?;
+    desk.record(1, plain(7, 1, 0))?;
+    desk.record(2, record(9, 3, 1, 2, 4))?;
+    for (key, heat) in [(5, 2), (7, 1), (9, 2), (11, 0)] {
+        desk.true_heat(key, heat)?;
+    }
+    // Which classes are tracked then.
+    for (key, number) in [(5, 101), (7, 101), (9, 101), (11, 102)] {
+        rows_left()?.gives(number, update(key, 1))?;
+    }
+    Ok(())
+}
+
+fn long_known_stays(model: &Model, seed: u64) -> Result<(), String> {
+    let mut desk = Desk::fresh(model, seed, 3, 0)?;
+    desk.gives(104, read(1, 2))?;
+    desk.gives(104, read(2, 1))?;
+    desk.gives(104, read(3, 2))?;
+    // Class 2 is the coldest, and class 4 comes to the heat of the others, with slack 1.
+    desk.gives(104, read(4, 1))?;
+    desk.record(0, plain(1, 2, 0))?;
+    desk.record(1, plain(4, 2, 1))?;
+    desk.record(2, plain(3, 2, 0))?;
+    // It leaves, and classes 1 and 3 stay.
+    desk.gives(104, read(5, 1))?;
+    desk.record(0, plain(1, 2, 0))?;
+    desk.record(1, plain(5, 3, 2))?;
+    desk.record(2, plain(3, 2, 0))?;
+    // Classes 1 and 3 are the coldest, with equal slacks: the first leaves.
+    desk.gives(104, read(6, 1))?;
+    desk.record(0, plain(6, 3, 2))?;
+    desk.record(2, plain(3, 2, 0))?;
+    // Class 3 comes to the heat of the new ones, and outlasts them.
+    desk.gives(104, read(3, 1))?;
+    desk.gives(104, read(7, 1))?;
+    desk.record(0, plain(7, 4, 3))?;
+    desk.record(1, plain(5, 3, 2))?;
+    desk.record(2, plain(3, 3, 0))?;
+    desk.gives(104, read(8, 1))?;
+    desk.record(0, plain(7, 4, 3))?;
+    desk.record(1, plain(8, 4, 3))?;
+    desk.record(2, plain(3, 3, 0))?;
+    desk.gives(104, read(3, 1))?;
+    desk.gives(104, read(9, 1))?;
+    desk.record(0, plain(9, 5, 4))?;
+    desk.record(1, plain(8, 4, 3))?;
+    desk.record(2, plain(3, 4, 0))?;
+    desk.true_heat(3, 4)?;
+    desk.gauge(13, 4, 0)
+}
+
+fn largest_slack_leaves(model: &Model, seed: u64) -> Result<(), String> {
+    let own = 0x0123_4567_89ab_cdef_u64;
+    let high = 1 << 63;
+    let mut pairs = vec![
+        (0, 1),
+        (1, 2),
+        (0, u64::MAX),
+        (1, 1 << 32),
+        ((1 << 32) - 1, 1 << 32),
+        ((1 << 32) + 9, 2 << 32),
+        (high - 1, high),
+        (high - 1, u64::MAX),
+        (high, high + 1),
+        (u64::MAX - 1, u64::MAX),
+    ];
+    // Each bit counts.
+    for other in (0..64).map(|bit| own ^ (1 << bit)) {
+        pairs.push((own.min(other), own.max(other)));
+    }
+    for (less, more) in pairs {
+        let (sure, unsure, warm) = (plain(5, 4, less), plain(7, 4, more), plain(9, 6, more));
+        let on_line = record(11, 9, less, 3, 7);
+        let two: [(&[Record], usize, usize); 6] = [
+            (&[sure, unsure], 0, 1),
+            (&[unsure, sure], 0, 0),
+            (&[warm, sure, unsure], 0, 2),
+            (&[unsure, warm, sure], 0, 0),
+            (&[sure, sure, on_line, unsure, sure], 1, 3),
+            (&[on_line, sure, unsure, warm], 1, 2),
+        ];
+        for (records, c, victim) in two {
+            // A ceiling below the heats, at them and above them.
+            for ceiling in [0, 3, 4, 5] {
+                let mut desk = Desk::with(model, seed, (40, ceiling, 9), records, c);
+                desk.evicts(victim)
+                    .map_err(|text| format!("slacks {less} and {more}: {text}"))?;
+            }
+        }
+    }
+    Ok(())
+}
+
+fn heat_before_slack(model: &Model, seed: u64) -> Result<(), String> {
+    // The coldest leaves with less slack than the others have, or none.
+    for (cold, slack) in [(0, 0), (3, 0), (3, 1), (3, u64::MAX - 1)] {
+        let own = plain(5, cold, slack);
+        let (more, most) = (plain(7, cold + 1, slack + 1), plain(9, cold + 1, u64::MAX));
+        for (records, victim) in [
+            ([own, more, most], 0),
+            ([more, own, most], 1),
+            ([most, own, more], 1),
+            ([more, most, own], 2),
+            ([most, more, own], 2),
+        ] {
+            Desk::with(model, seed, (40, 1, 9), &records, 0).evicts(victim)?;
+        }
+    }
+    // Two are the coldest, and the hottest has the largest slack.
+    let records = [
+        plain(1, 6, u64::MAX),
+        plain(5, 3, 2),
+        plain(9, 4, 8),
+        plain(7, 3, 5),
+    ];
+    Desk::with(model, seed, (40, 1, 9), &records, 0).evicts(3)
+}
+
+fn first_of_equal_slack(model: &Model, seed: u64) -> Result<(), String> {
+    for slack in [1, 3, 1 << 32, 1 << 63, u64::MAX] {
+        let (five, seven) = (plain(5, 4, slack), plain(7, 4, slack));
+        let (sure, warm) = (plain(9, 4, slack - 1), plain(11, 5, slack));
+        // Keys do not count.
+        for (records, victim) in [
+            ([five, seven, sure, warm], 0),
+            ([seven, five, warm, sure], 0),
+            ([sure, five, seven, warm], 1),
+            ([sure, seven, warm, five], 1),
+            ([warm, sure, seven, five], 2),
+            ([warm, sure, five, seven], 2),
+        ] {
+            Desk::with(model, seed, (40, 1, 9), &records, 0).evicts(victim)?;
+        }
+        let mut records = [plain(5, 4, slack); 1_024];
+        for (place, record) in records.iter_mut().enumerate() {
+            record.key = 2_000 - place as u64;
+        }
+        Desk::with(model, seed, (5_000, 1, 9), &records, 0).evicts(0)?;
+        for record in &mut records[..700] {
+            record.slack = slack - 1;
+        }
+        Desk::with(model, seed, (5_000, 1, 9), &records, 0).evicts(700)?;
+    }
+    Ok(())
+}
+
+fn largest_slack_in_every_place(model: &Model, seed: u64) -> Result<(), String> {
+    for k in [1, 2, 3, 4, 33, 1_023, 1_024] {
+        let places = if k > 33 {
+            vec![0, 1, k / 2 - 1, k / 2, k - 2, k - 1]
+        } else {
+            (0..k).collect()
+        };
+        for victim in places {
+            let records: Vec<Record> = (0..k)
+                .map(|place| plain(100 + place as u64, 4, u64::from(place == victim)))
+                .collect();
+            let mut desk = Desk::with(model, seed, (5_000, 1, 9), &records, 0);
+            desk.evicts(victim)
+                .map_err(|text| format!("K = {k}, place {victim}: {text}"))?;
+        }
+    }
+    Ok(())
+}
+
+fn no_victim_on_a_line(model: &Model, seed: u64) -> Result<(), String> {
+    // Class 5 is on a line, as cold as the others or colder, and has the largest slack. It loses its
+    // line to the new class, and stays.
+    for heat in [0, 1, 4] {
+        let own = record(5, heat, u64::MAX, 3, 7);
+        let (sure, unsure) = (plain(7, 4, 1), plain(9, 4, 2));
+        for (records, victim) in [
+            ([own, sure, unsure], 2),
+            ([own, unsure, sure], 1),
+            ([sure, own, unsure], 2),
+            ([unsure, sure, own], 0),
+        ] {
+            let mut desk = Desk::with(model, seed, (40, 1, 40), &records, 1);
+            desk.wanted(41, read(13, 1))?;
+            for (place, before) in records.into_iter().enumerate() {
+                let due = match before {
+                    _ if place == victim => record(13, 5, 4, 2, 41),
+                    Record { key: 5, .. } => plain(5, heat, u64::MAX),
+                    _ => before,
+                };
+                desk.record(place, due)?;
+            }
+            desk.gauge(41, 4, 41)?;
+        }
+    }
+    Ok(())
+}
+
+fn victim_after_an_aging(model: &Model, seed: u64) -> Result<(), String> {
+    let most = u64::MAX;
+    for (first, second, victim) in [
+        // Heats 4 and 5 become 2.
+        ((4, 0), (5, 9), 1),
+        ((5, 9), (4, 0), 0),
+        ((5, 0), (4, 9), 1),
+        // Slacks 1 and 2 become 1.
+        ((4, 1), (4, 2), 0),
+        ((4, 2), (4, 1), 0),
+        // Heats and slacks.
+        ((5, 1), (4, 2), 0),
+        ((5, 2), (4, 3), 1),
+        // 2^64 - 1 becomes 2^63, and 2^64 - 2 becomes 2^63 - 1, as does 2^64 - 3.
+        ((4, most - 1), (4, most), 1),
+        ((4, most), (4, most - 1), 0),
+        ((4, most - 2), (4, most - 1), 0),
+        ((4, most - 1), (4, most - 2), 0),
+        // 3 becomes 1, and 4 becomes 2.
+        ((4, 9), (3, 0), 1),
+    ] {
+        let half = |key, (heat, slack): (u64, u64)| plain(key, heat / 2, slack / 2 + slack % 2);
+        let records = [plain(5, first.0, first.1), plain(7, second.0, second.1)];
+        let mut desk = Desk::with(model, seed, (4_294_967_295, 1, 9), &records, 0);
+        desk.gives(104, read(13, 1))?;
+        let mut due = [half(5, first), half(7, second)];
+        let level = due[victim].heat;
+        due[victim] = plain(13, level + 1, level);
+        desk.record(0, due[0])?;
+        desk.record(1, due[1])?;
+        desk.gauge(2_147_483_648, level, 9)?;
+    }
+    Ok(())
+}
+
+fn free_record_before_a_victim(model: &Model, seed: u64) -> Result<(), String> {
+    let (sure, unsure) = (plain(5, 4, 0), plain(7, 4, u64::MAX));
+    for (records, taken) in [
+        ([sure, FREE, unsure, FREE], 1),
+        ([sure, unsure, FREE, FREE], 2),
+        ([FREE, FREE, unsure, sure], 0),
+        ([unsure, sure, plain(9, 0, 9), FREE], 3),
+    ] {
+        let mut desk = Desk::with(model, seed, (40, 3, 9), &records, 0);
+        desk.gives(104, read(13, 1))?;
+        for (place, before) in records.into_iter().enumerate() {
+            let due = if place == taken {
+                plain(13, 4, 3)
+            } else {
+                before
+            };
+            desk.record(place, due)?;
+        }
+        desk.gauge(41, 3, 9)?;
+    }
+    Ok(())
+}
+
+fn no_victim_for_a_tracked_key(model: &Model, seed: u64) -> Result<(), String> {
+    let records = [plain(5, 4, 9), plain(7, 4, u64::MAX), plain(9, 4, 0)];
+    for (place, own) in records.into_iter().enumerate() {
+        let mut desk = Desk::with(model, seed, (40, 3, 9), &records, 0);
+        desk.gives(104, read(own.key, 1))?;
+        for (other, before) in records.into_iter().enumerate() {
+            let due = if other == place {
+                plain(own.key, 5, own.slack)
+            } else {
+                before
+            };
+            desk.record(other, due)?;
+        }
+        desk.gauge(41, 3, 9)?;
+    }
+    Ok(())
+}
+
+fn first_of_the_coldest_on_lines(model: &Model, seed: u64) -> Result<(), String> {
+    for (first, second) in [(0, u64::MAX), (u64::MAX, 0), (3, 3), (1, 2), (2, 1)] {
+        // Class 11 is warmer than classes 5 and 7. A class without a line comes to heat 5, and a new
+        // one in the place of that class to heat 10.
+        let records = [
+            record(11, 6, u64::MAX, 6, 5),
+            record(5, 4, first, 5, 7),
+            record(7, 4, second, 2, 6),
+            plain(9, 4, 2),
+        ];
+        for (call, heat, slack) in [(read(9, 1), 5, 2), (read(13, 6), 10, 4)] {
+            let key = if heat == 5 { 9 } else { 13 };
+            let mut desk = Desk::with(model, seed, (40, 1, 40), &records, 3);
+            desk.gives(4_001, call)?;
+            desk.told(41)?;
+            desk.record(0, records[0])?;
+            desk.record(1, plain(5, 4, first))?;
+            desk.record(2, records[2])?;
+            desk.record(3, record(key, heat, slack, 4, 41))?;
+        }
+    }
+    Ok(())
+}
+
+fn first_of_the_hottest_off_lines(model: &Model, seed: u64) -> Result<(), String> {
+    for (first, second) in [(0, u64::MAX), (u64::MAX, 0), (3, 3), (1, 2), (2, 1)] {
+        let records = [
+            plain(11, 3, u64::MAX),
+            plain(7, 4, first),
+            record(5, 9, 0, 3, 7),
+            plain(9, 4, second),
+        ];
+        let mut desk = Desk::with(model, seed, (40, 1, 40), &records, 1);
+        desk.gives(101, update(5, 6))?;
+        desk.record(0, records[0])?;
+        desk.record(1, record(7, 4, first, 2, 41))?;
+        desk.record(2, plain(5, 3, 0))?;
+        desk.record(3, records[3])?;
+        desk.gauge(40, 1, 41)?;
+    }
+    Ok(())
 }

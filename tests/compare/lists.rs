@@ -29,19 +29,22 @@ pub struct Plan {
 }
 
 /// The steps that must come in the lists of group (b) together.
-pub const STEPS: [&str; 38] = [
+pub const STEPS: [&str; 43] = [
     "read 2: tracked",
     "read 3: free record",
     "read 3: free record, ceiling over 0",
     "read 4: ceiling raised",
     "read 4: victim at ceiling",
     "read 4: victim under ceiling",
-    "read 4: victim first among equals",
+    "read 4: victim by slack",
+    "read 4: victim of largest slack behind an equally cold one",
+    "read 4: victim first among equal slack",
     "read 5: has a line",
     "read 5: unused line",
     "read 5: no lines at all",
     "read 5: takes the coldest's line",
     "read 5: coldest first among equals",
+    "read 5: coldest, another as cold has more slack",
     "read 5: equal heat",
     "read 5: colder",
     "update: heat stops at 0",
@@ -51,6 +54,7 @@ pub const STEPS: [&str; 38] = [
     "update: line kept, equal heat",
     "update: line moves",
     "update: hottest first among equals",
+    "update: hottest, another as hot has more slack",
     "look: hit",
     "look: wanted",
     "look: passed, tracked",
@@ -65,6 +69,7 @@ pub const STEPS: [&str; 38] = [
     "withdraw: line becomes unused",
     "withdraw: line goes to the hottest",
     "withdraw: hottest first among equals",
+    "withdraw: hottest, another as hot has more slack",
     "withdraw: hottest no hotter than a free record before it",
     "withdraw: hottest in the first record",
     "withdraw: hottest in the last record",
@@ -161,6 +166,33 @@ pub fn plans_from_fresh() -> Vec<Plan> {
             contest: true,
             reads_only: false,
         });
+    }
+    // Every read weighs 1 and the classes come equally often, so that equally cold records are many:
+    // new ones with equal slacks, and long-known ones with less.
+    for (k, c) in [
+        (1, 0),
+        (2, 0),
+        (3, 0),
+        (3, 1),
+        (8, 0),
+        (8, 3),
+        (24, 6),
+        (64, 16),
+        (200, 50),
+        (1_024, 256),
+    ] {
+        for classes in [k + k / 4 + 1, 3 * k] {
+            plans.push(Plan {
+                k,
+                c,
+                classes,
+                weight: 1,
+                least: 1,
+                agings: 20,
+                contest: true,
+                reads_only: false,
+            });
+        }
     }
     // Without updates the levelled sum is nearest to its bound.
     for (k, c) in [(3, 0), (3, 1), (8, 2), (64, 16)] {

@@ -21,7 +21,7 @@ use std::process::exit;
 const SEED: u64 = 20_210_323;
 const CALLS: u64 = 400_000;
 const USAGE: &str = "compare [--seed N] [--calls N] [--verbose] [--fault NAME]";
-const FAULTS: [(&str, Fault); 8] = [
+const FAULTS: [(&str, Fault); 12] = [
     ("admit-equal", Fault::AdmitEqual),
     ("fresh-keeps", Fault::FreshKeeps),
     ("sum-heat", Fault::SumHeat),
@@ -30,6 +30,10 @@ const FAULTS: [(&str, Fault); 8] = [
     ("ticket-on-hit", Fault::TicketOnHit),
     ("any-ticket", Fault::AnyTicket),
     ("free-takes-line", Fault::FreeTakesLine),
+    ("victim-by-heat", Fault::VictimByHeat),
+    ("victim-least-slack", Fault::VictimLeastSlack),
+    ("victim-low-half", Fault::VictimLowHalf),
+    ("coldest-by-slack", Fault::ColdestBySlack),
 ];
 
 /// How often each answer and each step came.

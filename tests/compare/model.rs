@@ -1,8 +1,9 @@
-//! The rules of document 01 for the exported calls, with document 02's requests as landed (Asks 1, 2
-//! and 4, and Ask 3, by which "Answers and lent bytes stay"), and the replay of demand 3.
+//! The rules of document 01 for the exported calls, with document 02's requests as landed (Asks 1, 2,
+//! 4 and 5, and Ask 3, by which "Answers and lent bytes stay"), and the replay of demand 3.
 //!
 //! In document 01's order, and independent of the library's code. Words in quotes are the
-//! documents'; document 02's on tickets are those of its Ask 2, and on withdrawals of its Ask 4.
+//! documents'; document 02's on tickets are those of its Ask 2, on withdrawals of its Ask 4, and on
+//! the victim of its Ask 5.
 
 use std::collections::BTreeMap;
 
@@ -303,6 +304,21 @@ impl Cache {
         found
     }
 
+    /// Of the coldest records that `of` picks, "the one with the largest slack, then the first". The
+    /// slack is what `slack` gives, so that a fault may take another number for it.
+    fn coldest_by_slack(
+        &self,
+        of: impl Fn(&Record) -> bool,
+        slack: impl Fn(&Record) -> u64,
+    ) -> Option<usize> {
+        let picked = || self.records.iter().filter(|record| of(record));
+        let coldest = picked().map(|record| record.heat).min()?;
+        let equals = picked().filter(|record| record.heat == coldest);
+        let largest = equals.map(&slack).max()?;
+        let is_it = |r: &Record| of(r) && r.heat == coldest && slack(r) == largest;
+        self.records.iter().position(is_it)
+    }
+
     /// The hottest of the records that `of` picks, "first among equals".
     fn hottest(&self, of: impl Fn(&Record) -> bool) -> Option<usize> {
         let mut found: Option<usize> = None;
@@ -318,6 +334,13 @@ impl Cache {
     fn count_at(&self, heat: u64, of: impl Fn(&Record) -> bool) -> usize {
         let same = |record: &&Record| of(record) && record.heat == heat;
         self.records.iter().filter(same).count()
+    }
+
+    /// Whether another of the records that `of` picks has the heat of this one and more slack.
+    fn less_slack(&self, place: usize, of: impl Fn(&Record) -> bool) -> bool {
+        let own = &self.records[place];
+        let more = |record: &Record| record.heat == own.heat && record.slack > own.slack;
+        self.records.iter().any(|record| of(record) && more(record))
     }
 
     /// The lowest "line used by no record".
@@ -362,7 +385,7 @@ impl Cache {
     }
 
     /// **Read** of a key with weight w, "1 to 65,535".
-    fn read(&mut self, key: u64, w: u64, admit_on_equal: bool, path: &mut Path) -> Answer {
+    fn read(&mut self, key: u64, w: u64, fault: Option<Fault>, path: &mut Path) -> Answer {
         // 1. "If total + w exceeds L, age first. Then total grows by w."
         if self.total + w > L {
             path.push("read 1: aged first");
@@ -390,12 +413,21 @@ impl Cache {
                         place
                     }
                     // 4. "Untracked key, no free record: the victim is the coldest record without
-                    // a line, first among equals. Ceiling becomes the larger of ceiling and the
-                    // victim's heat."
+                    // a line". Document 02: "Among equally cold records without a line, the victim
+                    // is now the one with the largest slack, then the first."
                     None => {
                         let without = |record: &Record| record.line().is_none();
+                        let slack = |record: &Record| match fault {
+                            Some(Fault::VictimByHeat) => 0,
+                            Some(Fault::VictimLeastSlack) => u64::MAX - record.slack,
+                            Some(Fault::VictimLowHalf) => record.slack % (1 << 32),
+                            _ => record.slack,
+                        };
                         // At most C records are on lines and C is under K, so there is one.
-                        let victim = self.coldest(without).expect("a record without a line");
+                        let victim = self.coldest_by_slack(without, slack);
+                        let victim = victim.expect("a record without a line");
+                        self.name_victim(victim, path);
+                        // "Ceiling becomes the larger of ceiling and the victim's heat."
                         let heat = self.records[victim].heat;
                         path.push(if heat > self.ceiling {
                             "read 4: ceiling raised"
@@ -404,9 +436,6 @@ impl Cache {
                         } else {
                             "read 4: victim at ceiling"
                         });
-                        if self.count_at(heat, without) > 1 {
-                            path.push("read 4: victim first among equals");
-                        }
                         self.ceiling = self.ceiling.max(heat);
                         victim
                     }
@@ -434,13 +463,23 @@ impl Cache {
                 // record on a line (first among equals), it takes that record's line and that
                 // record's state becomes 1."
                 let with = |record: &Record| record.line().is_some();
+                // Document 02: "The coldest on the lines is still chosen as before."
+                let coldest = if fault == Some(Fault::ColdestBySlack) {
+                    self.coldest_by_slack(with, |record| record.slack)
+                } else {
+                    self.coldest(with)
+                };
                 // Every line is used and there is one at least, so there is such a record.
-                let coldest = self.coldest(with).expect("a record on a line");
+                let coldest = coldest.expect("a record on a line");
                 let (own, other) = (self.records[place].heat, self.records[coldest].heat);
+                let admit_on_equal = fault == Some(Fault::AdmitEqual);
                 if own > other || (admit_on_equal && own == other) {
                     path.push("read 5: takes the coldest's line");
                     if self.count_at(other, with) > 1 {
                         path.push("read 5: coldest first among equals");
+                    }
+                    if self.less_slack(coldest, with) {
+                        path.push("read 5: coldest, another as cold has more slack");
                     }
                     let line = self.records[coldest].line().expect("its line");
                     self.take_line(place, line);
@@ -459,6 +498,32 @@ impl Cache {
 
         // 6. "Answer: hit ..."
         self.records[place].answer()
+    }
+
+    /// Names what made this record the victim among equally cold ones.
+    fn name_victim(&self, victim: usize, path: &mut Path) {
+        let (before, after) = self.records.split_at(victim);
+        let (own, behind) = after.split_first().expect("the victim");
+        let equal = |record: &Record| record.line().is_none() && record.heat == own.heat;
+        let less = |record: &Record| equal(record) && record.slack < own.slack;
+        for (name, holds) in [
+            (
+                "read 4: victim by slack",
+                before.iter().chain(behind).any(less),
+            ),
+            (
+                "read 4: victim of largest slack behind an equally cold one",
+                before.iter().any(less),
+            ),
+            (
+                "read 4: victim first among equal slack",
+                behind.iter().any(|r| equal(r) && r.slack == own.slack),
+            ),
+        ] {
+            if holds {
+                path.push(name);
+            }
+        }
     }
 
     /// A look, document 02's "read of weight 0". "It answers hit, wanted or passed as the table
@@ -544,6 +609,9 @@ impl Cache {
                 path.push("update: line moves");
                 if self.count_at(other, without) > 1 {
                     path.push("update: hottest first among equals");
+                }
+                if self.less_slack(hottest, without) {
+                    path.push("update: hottest, another as hot has more slack");
                 }
                 self.take_line(hottest, line);
                 self.lose_line(place);
@@ -637,6 +705,10 @@ impl Cache {
             (
                 "withdraw: hottest first among equals",
                 self.count_at(heat, waits) > 1,
+            ),
+            (
+                "withdraw: hottest, another as hot has more slack",
+                self.less_slack(hottest, waits),
             ),
             (
                 "withdraw: hottest no hotter than a free record before it",
@@ -953,6 +1025,14 @@ pub enum Fault {
     AnyTicket,
     /// A withdrawn class's line may go to a free record, as if that were a class of heat 0.
     FreeTakesLine,
+    /// The victim is the first of equally cold records, whatever the slacks.
+    VictimByHeat,
+    /// The victim is the one with the smallest slack of equally cold records.
+    VictimLeastSlack,
+    /// Of slacks, only the low 32 bits count for the victim.
+    VictimLowHalf,
+    /// Of equally cold records on lines, the one with the largest slack loses its line.
+    ColdestBySlack,
 }
 
 /// The calls on lent bytes.
@@ -1030,10 +1110,7 @@ impl Model {
             Call::Read { key, weight: 0 } if self.fault != Some(Fault::LookWarms) => {
                 cache.look(*key, path)
             }
-            Call::Read { key, weight } => {
-                let admit_on_equal = self.fault == Some(Fault::AdmitEqual);
-                cache.read(*key, *weight, admit_on_equal, path)
-            }
+            Call::Read { key, weight } => cache.read(*key, *weight, self.fault, path),
             Call::Update { key, weight } => {
                 let keeps_ticket = self.fault == Some(Fault::KeepsTicket);
                 cache.update(*key, *weight, keeps_ticket, path)

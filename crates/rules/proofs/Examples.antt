@@ -23,7 +23,7 @@ use Rattle.rules.specs.Steps.{Outcome, outcome, GivesOne}
 use Rattle.rules.specs.Calls.{OfSizes, host_lent, HostMemory, HostRead, read_lent, exported, exported_read, plain_verdict, age_outcome, read_outcome, update_outcome, fill_outcome, withdraw_outcome, levelled_outcome, show_line}
 use Rattle.rules.specs.Answers.{said, values_of}
 use Rattle.rules.specs.Numbers.{NamesLine, TellsLine, key_said, read_said, standing, form_good, form_values, said_at}
-use Rattle.rules.specs.Journal.{decimal, printed, printed_all, journal_run, entry_at, decoded, unknown_word, stored_word, passed_word, withdrawn_word, hit_word, wanted_word, refused_word}
+use Rattle.rules.specs.Journal.{decimal, printed, printed_all, journal_run, start_run, run_for, entry_at, decoded, unknown_word, stored_word, passed_word, withdrawn_word, hit_word, wanted_word, refused_word}
 use Rattle.rules.specs.Sample.{sample_entry, sample_journal, sample_start, sample_end, sample_picture, host_start, row, gauge_of, numbers, three_records}
 use Rattle.rules.specs.Replay.{Truth, withdraw_truth}
 use Rattle.rules.proofs.Changes.{at_same, at_other}
@@ -35,6 +35,17 @@ use Rattle.rules.proofs.Peek.{peek_shows}
 pub sample_memory : (journal_run sample_start sample_journal).memory ≡ sample_end
 unfolding computing
 sample_memory = refl
+
+-- what its first n rows leave
+abbrev after_rows : ℕ → Memory
+after_rows n = (run_for sample_journal (start_run sample_start) n).memory
+
+-- | Row 12 of the sample journal now evicts class 11 (document 02): it is as cold as class 7 and has more slack
+pub row_12_evicts_11 :
+    (after_rows 11 ≡ with_lines (sample_picture 105) (three_records (numbers 5 2 0 2 3) (numbers 7 1 0 1 0) (numbers 11 1 1 1 0) (gauge_of 6 1 3) 1))
+    × (after_rows 12 ≡ with_lines (sample_picture 105) (three_records (numbers 5 2 0 2 3) (numbers 7 1 0 1 0) (numbers 9 2 1 1 0) (gauge_of 7 1 3) 1))
+unfolding computing
+row_12_evicts_11 = (refl, refl)
 
 -- a table such as its row 10 finds: class 7 has no line
 abbrev before_row_10 : Memory
@@ -536,9 +547,58 @@ pub refusals_numbered :
 unfolding number
 refusals_numbered = (refl, refl, refl, refl, refl, refl, refl, refl, refl, refl)
 
--- ---- among equally cold classes without a line the first leaves, whatever their slacks and keys
+-- ---- among equally cold classes without a line the one with the most slack leaves, whatever its place and key
+pub most_slack_leaves :
+    read_outcome (three_records (numbers 12 5 1 1 0) (numbers 11 5 2 1 0) (numbers 13 5 0 1 0) (gauge_of 20 3 0) 0) 24 1
+    ≡ outcome (Ok Passed) (three_records (numbers 12 5 1 1 0) (numbers 24 6 5 1 0) (numbers 13 5 0 1 0) (gauge_of 21 5 0) 0)
+unfolding computing
+most_slack_leaves = refl
+
+-- a colder class with less slack leaves before it
+pub colder_leaves :
+    read_outcome (three_records (numbers 12 5 9 1 0) (numbers 11 5 1 1 0) (numbers 13 4 0 1 0) (gauge_of 20 3 0) 0) 24 1
+    ≡ outcome (Ok Passed) (three_records (numbers 12 5 9 1 0) (numbers 11 5 1 1 0) (numbers 24 5 4 1 0) (gauge_of 21 4 0) 0)
+unfolding computing
+colder_leaves = refl
+
+-- of classes with as much slack the first leaves, whatever their keys
 pub first_of_equals_leaves :
-    read_outcome (three_records (numbers 12 5 2 1 0) (numbers 11 5 1 1 0) (numbers 13 5 3 1 0) (gauge_of 20 3 0) 0) 24 1
-    ≡ outcome (Ok Passed) (three_records (numbers 24 6 5 1 0) (numbers 11 5 1 1 0) (numbers 13 5 3 1 0) (gauge_of 21 5 0) 0)
+    read_outcome (three_records (numbers 12 5 2 1 0) (numbers 11 5 2 1 0) (numbers 13 5 2 1 0) (gauge_of 20 3 0) 0) 24 1
+    ≡ outcome (Ok Passed) (three_records (numbers 24 6 5 1 0) (numbers 11 5 2 1 0) (numbers 13 5 2 1 0) (gauge_of 21 5 0) 0)
 unfolding computing
 first_of_equals_leaves = refl
+
+-- slacks are compared in all of their 64 bits, and whole, also where they are over the ceiling and the heats are 0
+pub largest_slack_leaves :
+    read_outcome
+    (three_records
+    (numbers 13 0 18446744073709551614 1 0)
+    (numbers 12 0 9223372036854775807 1 0)
+    (numbers 11 0 18446744073709551615 1 0)
+    (gauge_of 20 3 0)
+    0)
+    24
+    1
+    ≡ outcome (Ok Passed)
+    (three_records
+    (numbers 13 0 18446744073709551614 1 0)
+    (numbers 12 0 9223372036854775807 1 0)
+    (numbers 24 4 3 1 0)
+    (gauge_of 21 3 0)
+    0)
+unfolding computing
+largest_slack_leaves = refl
+
+-- a read that ages first chooses by what is left of heats and slacks: here all heats are 2 then, and the two larger slacks 2
+pub aged_first_leaves :
+    read_outcome (three_records (numbers 12 4 2 1 0) (numbers 11 5 3 1 0) (numbers 13 5 4 1 0) (gauge_of 4294967295 0 0) 0) 24 1
+    ≡ outcome (Ok Passed) (three_records (numbers 12 2 1 1 0) (numbers 24 3 2 1 0) (numbers 13 2 2 1 0) (gauge_of 2147483648 2 0) 0)
+unfolding computing
+aged_first_leaves = refl
+
+-- and of equally cold classes on lines the first loses its line, whatever their slacks
+pub first_of_equals_yields :
+    read_outcome (three_records (numbers 12 5 1 3 1) (numbers 11 5 3 5 2) (numbers 13 5 2 1 0) (gauge_of 20 3 2) 2) 13 1
+    ≡ outcome (Ok (Wanted 0 3)) (three_records (numbers 12 5 1 1 0) (numbers 11 5 3 5 2) (numbers 13 6 2 2 3) (gauge_of 21 3 3) 2)
+unfolding computing
+first_of_equals_yields = refl

@@ -5,7 +5,8 @@ use mathlib.Core.Path.{◌≡◌, refl, sym, ◌∙◌, ap}
 use mathlib.Core.Bool.{true, false}
 use mathlib.Core.Logic.{◌≢◌}
 use native.Mathlib.Omega.{arith}
-use borrow.Author.Tests.{ltb-true, ltb-false, lt-ltb, le-ltb, eqb-true, eqb-false, eq-eqb}
+use Rattle.std.proofs.lemmas.Grind.{common_steps}
+use borrow.Author.Tests.{ltb-true, ltb-false, lt-ltb, eqb-true, eqb-false, eq-eqb}
 use Rattle.rules.specs.declared.Record.{Record}
 use Rattle.std.specs.Prelude.{Some, None}
 use Rattle.rules.specs.Pass.{Found}
@@ -66,57 +67,72 @@ module _ (f : ℕ → Record) (n : ℕ) where
   unfolding free_record is_free
   free_missing e j below = eqb-false _ _ (first_nowhere is_free f n e j below)
 
-  -- ---- the coldest without a line, the coldest on one, the hottest without one: each the first among equals
+  -- ---- the victim, the coldest on a line, the hottest without one: each the first among equals of its order
   colder_over : (r s t : Record) → colder r s ≡ true → colder t s ≡ false → colder r t ≡ true
   unfolding colder
-  colder_over r s t a b =
-      let p : r.heat < s.heat = ltb-true _ _ a in
-      let q : s.heat ≤ t.heat = ltb-false _ _ b in
-      lt-ltb r.heat t.heat (omega arith)
+  colder_over r s t a b = grind (arith, common_steps)
 
   colder_one_way : (r s : Record) → colder r s ≡ true → colder s r ≡ false
   unfolding colder
-  colder_one_way r s a = let p : r.heat < s.heat = ltb-true _ _ a in le-ltb s.heat r.heat (omega arith)
+  colder_one_way r s a = grind (arith, common_steps)
 
   colder_never : (r : Record) → colder r r ≡ false
   unfolding colder
-  colder_never r = le-ltb r.heat r.heat (omega arith)
+  colder_never r = grind (arith, common_steps)
 
   leaves_over : (r s t : Record) → leaves r s ≡ true → leaves t s ≡ false → leaves r t ≡ true
-  unfolding leaves
-  leaves_over = colder_over
+  unfolding leaves colder
+  leaves_over r s t a b = grind (arith, common_steps)
 
   leaves_one_way : (r s : Record) → leaves r s ≡ true → leaves s r ≡ false
-  unfolding leaves
-  leaves_one_way = colder_one_way
+  unfolding leaves colder
+  leaves_one_way r s a = grind (arith, common_steps)
+
+  -- of two equal in both, neither leaves before the other
+  leaves_equal : (r s : Record) → s.heat ≡ r.heat → s.slack ≡ r.slack → leaves r s ≡ false
+  unfolding leaves colder
+  leaves_equal r s heat slack = grind (arith, common_steps)
 
   leaves_never : (r : Record) → leaves r r ≡ false
-  unfolding leaves
-  leaves_never = colder_never
+  leaves_never r = leaves_equal r r refl refl
 
-  -- one that stays behind is no colder
-  leaves_coldest : (r s : Record) → leaves r s ≡ false → s.heat ≤ r.heat
+  -- one that stays behind is no colder, and of two equally cold has no more slack
+  leaves_stays : (r s : Record) → leaves r s ≡ false → (s.heat ≤ r.heat) × (r.heat ≡ s.heat → r.slack ≤ s.slack)
   unfolding leaves colder
-  leaves_coldest r s = ltb-false r.heat s.heat
+  leaves_stays r s e = grind (arith, common_steps)
 
   hotter_over : (r s t : Record) → hotter r s ≡ true → hotter t s ≡ false → hotter r t ≡ true
   unfolding hotter
-  hotter_over r s t a b =
-      let p : s.heat < r.heat = ltb-true _ _ a in
-      let q : t.heat ≤ s.heat = ltb-false _ _ b in
-      lt-ltb t.heat r.heat (omega arith)
+  hotter_over r s t a b = grind (arith, common_steps)
 
   hotter_one_way : (r s : Record) → hotter r s ≡ true → hotter s r ≡ false
   unfolding hotter
-  hotter_one_way r s a = let p : s.heat < r.heat = ltb-true _ _ a in le-ltb r.heat s.heat (omega arith)
+  hotter_one_way r s a = grind (arith, common_steps)
 
   hotter_never : (r : Record) → hotter r r ≡ false
   unfolding hotter
-  hotter_never r = le-ltb r.heat r.heat (omega arith)
+  hotter_never r = grind (arith, common_steps)
 
   pub victim_best : (i : ℕ) (r : Record) → victim f n ≡ Some (i, r) → IsBest is_unlined leaves f n i r
   unfolding victim
   victim_best i r e = best_at is_unlined leaves leaves_over leaves_one_way leaves_never f n i r e
+
+  -- no record off the lines is colder than the victim, none equally cold has more slack, and none equal in both stands before it
+  pub victim_first : (i : ℕ) (r : Record) → victim f n ≡ Some (i, r) → (j : ℕ) → j < n → (f j).state ≡ 1 →
+      (r.heat ≤ (f j).heat)
+      × ((f j).heat ≡ r.heat → (f j).slack ≤ r.slack)
+      × ((f j).heat ≡ r.heat → (f j).slack ≡ r.slack → i ≤ j)
+  unfolding is_unlined
+  victim_first i r e j below waits =
+      let h = victim_best i r e in
+      let passes : is_unlined (f j) ≡ true = eq-eqb _ _ waits in
+      let stays = leaves_stays (f j) r (h.unbeaten j below passes) in
+      let ahead : (f j).heat ≡ r.heat → (f j).slack ≡ r.slack → ¬ (j < i) =
+      λ heat slack before. clash (h.before j before passes) (leaves_equal r (f j) heat slack) in (
+        stays.0,
+        stays.1,
+        λ heat slack. omega (arith, ahead heat slack),
+      )
 
   pub victim_found : (i : ℕ) (r : Record) → victim f n ≡ Some (i, r) →
       IsAt f n i r (λ s. (s.state ≡ 1) × ((j : ℕ) → j < n → (f j).state ≡ 1 → s.heat ≤ (f j).heat))
@@ -128,14 +144,9 @@ module _ (f : ℕ → Record) (n : ℕ) where
         is = h.is;
         has = (
           eqb-true _ _ (ap is_unlined (sym h.is) ∙ h.passes),
-          λ j below waits. rw h.is at (leaves_coldest (f j) r (h.unbeaten j below (eq-eqb _ _ waits))),
+          λ j below waits. rw h.is at (victim_first i r e j below waits).0,
         );
       }
-
-  -- and is colder than all before it: the first among equals
-  pub victim_first : (i : ℕ) (r : Record) → victim f n ≡ Some (i, r) → (j : ℕ) → j < i → (f j).state ≡ 1 → r.heat < (f j).heat
-  unfolding leaves colder is_unlined
-  victim_first i r e j before waits = ltb-true r.heat (f j).heat ((victim_best i r e).before j before (eq-eqb _ _ waits))
 
   pub victim_missing : victim f n ≡ None → (j : ℕ) → j < n → (f j).state ≢ 1
   unfolding victim is_unlined

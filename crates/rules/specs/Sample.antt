@@ -120,7 +120,7 @@ sample_picture byte = replicate line_size byte
 
 -- what it leaves: 9 on line 0, which is empty; its bytes are those of the one accepted fill. Tickets were given by rows 1, 5, 8 and 13.
 unfoldable pub sample_end : Memory
-sample_end = with_lines (sample_picture 105) (three_records (numbers 5 2 0 1 0) (numbers 9 3 1 2 4) (numbers 11 1 1 1 0) (gauge_of 8 1 4) 1)
+sample_end = with_lines (sample_picture 105) (three_records (numbers 5 2 0 1 0) (numbers 7 1 0 1 0) (numbers 9 3 1 2 4) (gauge_of 8 1 4) 1)
 
 -- The start as a C host lends it, with that many gauge bytes.
 unfoldable pub host_start : ℕ → HostMemory

@@ -133,11 +133,12 @@ colder r s = ltb r.heat s.heat
 unfoldable pub hotter : Record → Record → Bool
 hotter r s = ltb s.heat r.heat
 
--- which of two records without a line leaves first
+-- which of two records without a line leaves first: the colder one, and of equally cold ones that with more slack
 unfoldable pub leaves : Record → Record → Bool
-leaves r s = colder r s
+leaves r s = colder r s || (eqb r.heat s.heat && ltb s.slack r.slack)
 
--- | the victim is the coldest record without a line, first among equals
+-- | the victim is the coldest record without a line
+-- | Among equally cold records without a line, the victim is now the one with the largest slack, then the first. (Document 02)
 unfoldable pub victim : (ℕ → Record) → ℕ → Found
 victim = best_of is_unlined leaves
 

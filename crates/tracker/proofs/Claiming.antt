@@ -1,7 +1,7 @@
--- The coldest record that passes a test, a record further, by heats: the largest number stands for none. Assumes nothing.
+-- The coldest record on a line, a record further, by heats: the largest number stands for none. Assumes nothing.
 use Prim.Native.Nat.{ℕ, ◌+◌, ◌≤◌, ◌<◌}
 use mathlib.Core.Path.{◌≡◌, refl}
-use mathlib.Core.Bool.{Bool, true, false, ◌&&◌}
+use mathlib.Core.Bool.{true, false, ◌&&◌}
 use native.Mathlib.Numerals.{add-one}
 use native.Mathlib.Omega.{arith}
 use borrow.Author.Tests.{lt-ltb, le-ltb}
@@ -12,16 +12,12 @@ use Rattle.rules.specs.Pass.{Found, pass, best, best_of}
 use Rattle.rules.specs.Table.{is_lined, colder, coldest_lined}
 use Rattle.tracker.specs.Claiming.{largest, heat_of, held_at}
 
--- whether a record is the coldest that passes a test, by its heat and that of the one found, or the largest number where there is none
-pub coldest_by_heat : (test : Record → Bool) (i : ℕ) (r : Record) (heat : ℕ) (found : Found) → r.heat < largest → heat ≡ heat_of found →
-    best test colder found i r ≡ (if test r && ltb r.heat heat then Some (i, r) else found)
+-- whether a record is the coldest on a line, by its heat and that of the one found, or the largest number where there is none
+coldest_by_heat : (i : ℕ) (r : Record) (heat : ℕ) (found : Found) → r.heat < largest → heat ≡ heat_of found →
+    best is_lined colder found i r ≡ (if is_lined r && ltb r.heat heat then Some (i, r) else found)
 unfolding best colder heat_of
-coldest_by_heat test i r heat None below is = rw (is, lt-ltb r.heat largest below) (go (test r))
-  where
-    go : (b : Bool) → (if◌then◌else◌ {A = Found} b (Some (i, r)) None) ≡ (if b && true then Some (i, r) else None)
-    go true = refl
-    go false = refl
-coldest_by_heat test i r heat (Some (j, s)) below is = rw is refl
+coldest_by_heat i r heat None below is = grind (arith, common_steps)
+coldest_by_heat i r heat (Some (j, s)) below is = rw is refl
 
 -- the coldest record on a line, a record further
 module _ (f : ℕ → Record) (n : ℕ) where
@@ -33,7 +29,7 @@ module _ (f : ℕ → Record) (n : ℕ) where
       (so_far : held_at f n best ≡ coldest_lined f i) (heat : least ≡ heat_of (held_at f n best)) where
     coldest_next : coldest_lined f (i + 1) ≡ (if is_lined r && ltb r.heat least then Some (i, r) else held_at f n best)
     unfolding coldest_lined best_of pass
-    coldest_next = rw (add-one, ← so_far, ← read) (coldest_by_heat is_lined i r least (held_at f n best) below heat)
+    coldest_next = rw (add-one, ← so_far, ← read) (coldest_by_heat i r least (held_at f n best) below heat)
 
     pub coldest_moves : i < n → is_lined r ≡ true → r.heat < least →
         (held_at f n i ≡ coldest_lined f (i + 1)) × (r.heat ≡ heat_of (held_at f n i))

@@ -4,18 +4,19 @@ use mathlib.Core.Path.{◌≡◌, refl, sym, ap, ◌∙◌}
 use mathlib.Core.Bool.{Bool, true, false}
 use mathlib.Core.Logic.{◌≢◌}
 use native.Mathlib.Omega.{arith}
+use Rattle.std.proofs.lemmas.Grind.{common_steps}
 use borrow.Author.Tests.{eqb-true, eqb-false, lt-ltb}
 use Rattle.rules.specs.declared.Record.{Record}
 use Rattle.tracker.specs.declared.Held.{Held}
-use Rattle.std.specs.Prelude.{Some, None, eqb}
-use Rattle.rules.specs.Pass.{Found, first}
-use Rattle.rules.specs.Table.{is_free, is_tracked, has_key, key_record, free_record, victim}
+use Rattle.std.specs.Prelude.{Some, None, ◌&&◌, leb, eqb, if◌then◌else◌}
+use Rattle.rules.specs.Pass.{Found, first, best}
+use Rattle.rules.specs.Table.{is_free, is_tracked, is_unlined, has_key, colder, leaves, key_record, free_record, victim}
 use Rattle.rules.specs.Walk.{Walk, walk}
 use Rattle.rules.proofs.Searches.{clash, first_at, first_nowhere, first_found}
 use Rattle.rules.proofs.Walks.{walk_holds}
 use Rattle.rules.proofs.Finds.{key_found, free_found, victim_found}
 use Rattle.tracker.specs.Claiming.{largest, heat_of}
-use Rattle.tracker.specs.Walking.{at, held_records, walked}
+use Rattle.tracker.specs.Walking.{at, held_records, slack_of, NumbersOf, walked}
 
 -- a record that fails the test changes nothing
 first_keeps : (test : Record → Bool) (held : Found) (i : ℕ) (r : Record) → test r ≡ false → held ≡ first test held i r
@@ -39,9 +40,21 @@ pub free_of_taken : (held : Found) (i : ℕ) (r : Record) → is_free r ≡ fals
 free_of_taken = first_keeps is_free
 
 -- the next record, at its place
-pub held_here : (f : ℕ → Record) (i : ℕ) (r : Record) → r ≡ f i → i < largest → (Some (i, r) ≡ at f i) × (r.heat ≡ heat_of (at f i))
-unfolding heat_of
-held_here f i r read below = (rw (lt-ltb i largest below, read) refl, rw (lt-ltb i largest below, read) refl)
+pub held_here : (f : ℕ → Record) (i : ℕ) (r : Record) → r ≡ f i → i < largest →
+    (Some (i, r) ≡ at f i) × (r.heat ≡ heat_of (at f i)) × (r.slack ≡ slack_of (at f i))
+unfolding heat_of slack_of
+held_here f i r read below =
+    let inside = lt-ltb i largest below in
+    (rw (inside, read) refl, rw (inside, read) refl, rw (inside, read) refl)
+
+-- whether a record leaves before the one that is found, by the numbers that are held: where its heat, or one more if it has no more slack, is
+-- at most the other's
+pub leaves_by_numbers : (r : Record) (held : Held) (i : ℕ) (found : Found) (one : ℕ) → r.heat < largest → NumbersOf held found →
+    one ≡ (if leb r.slack held.slack then 1 else 0) →
+    best is_unlined leaves found i r ≡ (if is_unlined r && leb (r.heat + one) held.heat then Some (i, r) else found)
+unfolding best leaves colder heat_of slack_of
+leaves_by_numbers r held i None one below numbers is = grind (arith, common_steps)
+leaves_by_numbers r held i (Some (j, s)) one below numbers is = grind (arith, common_steps)
 
 -- where the walk stops, and what it has found then
 module _ (key : ℕ) (f : ℕ → Record) where

@@ -19,9 +19,17 @@ found_in f (Some i) = Some (i, f i)
 abbrev pub held_records : (ℕ → Record) → Held → Walk
 held_records f held = record { own = at f held.own; free = at f held.free; victim = at f held.victim }
 
--- the heat that is held is the victim's, or the largest number where there is none
-abbrev pub HeatHeld : (ℕ → Record) → Held → Type 0
-HeatHeld f held = held.heat ≡ heat_of (at f held.victim)
+unfoldable pub slack_of : Found → ℕ
+slack_of None = largest
+slack_of (Some (i, r)) = r.slack
+
+-- the heat and the slack that are held are those of what was found, or the largest number where nothing was
+abbrev pub NumbersOf : Held → Found → Type 0
+NumbersOf held found = (held.heat ≡ heat_of found) × (held.slack ≡ slack_of found)
+
+-- they are the victim's
+abbrev pub VictimHeld : (ℕ → Record) → Held → Type 0
+VictimHeld f held = NumbersOf held (at f held.victim)
 
 -- how many of n records are walked over, where the walk stops at the key's
 abbrev pub walked : ℕ → Found → ℕ

@@ -12,7 +12,7 @@ ghost use Rattle.rules.specs.Calls.{most_records};
 ghost use Rattle.rules.specs.Numbers.{key_said};
 ghost use Rattle.tracker.specs.Claiming.{largest, heat_of, HeatsUnder, ClaimFits, below, IsClaim};
 ghost use Rattle.tracker.specs.Marks.{Unmarked, Marks, lowest_unmarked};
-ghost use Rattle.tracker.specs.Walking.{at, found_in, held_records, HeatHeld, walked};
+ghost use Rattle.tracker.specs.Walking.{at, found_in, held_records, NumbersOf, VictimHeld, walked};
 
 use fields::{is_filled, is_free, is_lined, is_unlined, line_of};
 use records::{record_at, record_count};
@@ -77,13 +77,14 @@ pub fn lookup(table: &[u8], key: u64) -> Lookup
 const NONE: usize = usize::MAX;
 
 // What the walk holds, in places and numbers: the places of the key's record, of the first free one and of the victim, each NONE where
-// there is none, and the victim's heat, or the largest number.
+// there is none, and the victim's heat and slack, each the largest number where there is none.
 #[derive(Clone, Copy, Debug)]
 pub struct Held {
     pub own: usize,
     pub free: usize,
     pub victim: usize,
     pub heat: u64,
+    pub slack: u64,
 }
 
 // A place, if it is that of a record.
@@ -102,13 +103,14 @@ fn first_place(held: usize, i: usize, passes: bool) -> usize
     if passes && held == NONE { i } else { held }
 }
 
-// The order of step 4: whether a record leaves before the victim that is held, if one is.
-#[tactic(auto, unfolding(rules::specs::Table::leaves), using(crate::proofs::Claiming::coldest_by_heat))]
+// The order of step 4: whether a record leaves before the victim that is held, if one is. Its heat has to be less, or no more where it has
+// more slack. (One comparison for both: no pattern tells the processor which of many equally cold records have more slack.)
+#[tactic(auto, using(crate::proofs::Walking::leaves_by_numbers))]
 fn leaves(r: Record, held: Held) -> bool
     requires { r.heat < largest }
-    ensures { (i : ℕ) (found : Found) → held.heat ≡ heat_of found → best is_unlined leaves found i r ≡ (if is_unlined r && result then Some (i, r) else found) }
+    ensures { (i : ℕ) (found : Found) → NumbersOf held found → best is_unlined leaves found i r ≡ (if is_unlined r && result then Some (i, r) else found) }
 {
-    r.heat < held.heat
+    r.heat + u64::from(r.slack <= held.slack) <= held.heat
 }
 
 // The key's record and the first free one, a record further.
@@ -117,7 +119,7 @@ fn first_step(held: Held, key: u64, i: usize, r: Record) -> Held
     requires { i < largest }
     ensures own { (f : ℕ → Record) → r ≡ f i → at f result.own ≡ first (has_key key) (at f held.own) i r }
     ensures free { (f : ℕ → Record) → r ≡ f i → at f result.free ≡ first is_free (at f held.free) i r }
-    ensures victim { (result.victim ≡ held.victim) × (result.heat ≡ held.heat) }
+    ensures victim { (result.victim ≡ held.victim) × (result.heat ≡ held.heat) × (result.slack ≡ held.slack) }
 {
     if is_free(r) {
         Held {
@@ -132,13 +134,13 @@ fn first_step(held: Held, key: u64, i: usize, r: Record) -> Held
     }
 }
 
-// The walk, a record further: by the key, what it holds and that record with its place. (The heat is asked first, and by itself, since few
-// tracked records are colder than the victim: of tests joined by `&&` the compiler makes both for every record, and the walk takes 1.4 to
+// The walk, a record further: by the key, what it holds and that record with its place. (The order is asked first, and by itself, since few
+// tracked records leave before the victim: of tests joined by `&&` the compiler makes both for every record, and the walk takes 1.4 to
 // 2.5 times as long.)
 #[tactic(auto, unfolding(rules::specs::Walk::walk_step), using(crate::proofs::Walking::held_here))]
 fn walk_step(held: Held, key: u64, i: usize, r: Record) -> Held
     requires { (i < largest) × (r.heat < largest) }
-    ensures { (f : ℕ → Record) → r ≡ f i → HeatHeld f held → (held_records f result ≡ walk_step key (held_records f held) i r) × HeatHeld f result }
+    ensures { (f : ℕ → Record) → r ≡ f i → VictimHeld f held → (held_records f result ≡ walk_step key (held_records f held) i r) × VictimHeld f result }
 {
     if !leaves(r, held) {
         first_step(held, key, i, r)
@@ -146,6 +148,7 @@ fn walk_step(held: Held, key: u64, i: usize, r: Record) -> Held
         Held {
             victim: i,
             heat: r.heat,
+            slack: r.slack,
             ..first_step(held, key, i, r)
         }
     } else {
@@ -155,7 +158,7 @@ fn walk_step(held: Held, key: u64, i: usize, r: Record) -> Held
 
 // The walk over the table. It stops at the key's record, and not at a free one, after which the key's may come. (Not inlined, as the order
 // test is not: its loop has to be aligned.)
-#[tactic(auto, unfolding(rules::specs::Bytes::record_count, rules::specs::Walk::walk, rules::specs::Pass::pass, crate::specs::Claiming::heat_of), using(rules::proofs::Walks::walk_next, crate::proofs::Walking::nowhere_yet))]
+#[tactic(auto, unfolding(rules::specs::Bytes::record_count, rules::specs::Walk::walk, rules::specs::Pass::pass, crate::specs::Claiming::heat_of, crate::specs::Walking::slack_of), using(rules::proofs::Walks::walk_next, crate::proofs::Walking::nowhere_yet))]
 #[inline(never)]
 pub fn walk(table: &[u8], key: u64) -> Held
     requires { HeatsUnder (record_at table.now) (record_count table.now) }
@@ -166,6 +169,7 @@ pub fn walk(table: &[u8], key: u64) -> Held
         free: NONE,
         victim: NONE,
         heat: u64::MAX,
+        slack: u64::MAX,
     };
     for i in 0..record_count(table) {
         held = walk_step(held, key, i, record_at(table, i));
