@@ -4,7 +4,7 @@
  *
  * Prints a line for each case and K: case, K and nanoseconds a call of each
  * side, '-' where it has no such call, parted by '|'; exit 1 where two sides
- * differ. */
+ * differ, the older one in an answer, the others in an answer or a byte. */
 #include "clock.h"
 #include "cot.h"
 
@@ -41,7 +41,7 @@ static const struct side {
     { older_read, older_update, older_withdraw },
 #endif
 };
-enum { SIDES = sizeof sides / sizeof *sides };
+enum { SIDES = sizeof sides / sizeof *sides, OLDER_SIDE = 3 };
 
 struct memory {
     size_t table_len, lines_len;
@@ -52,40 +52,42 @@ struct memory {
     uint8_t ticket[COT_TICKET_BYTES];
 };
 
+enum table { FULL, HALF_FREE, EQUALS };
 enum kind { READ, UPDATE, WITHDRAW };
 enum key { NEW_KEYS, FIRST_ON_LINE, LAST_ON_LINE, HALF_WAY, LAST, NOWHERE };
 
 static const struct test {
     const char *name;
-    bool half_free;
+    enum table table;
     enum kind kind;
     uint64_t weight; /* of a withdrawal none */
     enum key key;
 } tests[] = {
-    { "read, untracked, none free", false, READ, 1, NEW_KEYS },
-    { "read, untracked, half free", true, READ, 1, NEW_KEYS },
-    { "read, first on a line", false, READ, 1, FIRST_ON_LINE },
-    { "read, last on a line", false, READ, 1, LAST_ON_LINE },
-    { "read, half-way, no line", false, READ, 1, HALF_WAY },
-    { "read, last, no line", false, READ, 1, LAST },
-    { "look, untracked", false, READ, 0, NOWHERE },
-    { "look, untracked, half free", true, READ, 0, NOWHERE },
-    { "update, untracked", false, UPDATE, 1, NOWHERE },
-    { "update, first on a line", false, UPDATE, 1, FIRST_ON_LINE },
-    { "withdraw, untracked", false, WITHDRAW, 0, NOWHERE },
-    { "withdraw, first on a line", false, WITHDRAW, 0, FIRST_ON_LINE },
-    { "withdraw, last on a line", false, WITHDRAW, 0, LAST_ON_LINE },
-    { "withdraw, last, no line", false, WITHDRAW, 0, LAST },
+    { "read, untracked, none free", FULL, READ, 1, NEW_KEYS },
+    { "read, untracked, equals", EQUALS, READ, 1, NEW_KEYS },
+    { "read, untracked, half free", HALF_FREE, READ, 1, NEW_KEYS },
+    { "read, first on a line", FULL, READ, 1, FIRST_ON_LINE },
+    { "read, last on a line", FULL, READ, 1, LAST_ON_LINE },
+    { "read, half-way, no line", FULL, READ, 1, HALF_WAY },
+    { "read, last, no line", FULL, READ, 1, LAST },
+    { "look, untracked", FULL, READ, 0, NOWHERE },
+    { "look, untracked, half free", HALF_FREE, READ, 0, NOWHERE },
+    { "update, untracked", FULL, UPDATE, 1, NOWHERE },
+    { "update, first on a line", FULL, UPDATE, 1, FIRST_ON_LINE },
+    { "withdraw, untracked", FULL, WITHDRAW, 0, NOWHERE },
+    { "withdraw, first on a line", FULL, WITHDRAW, 0, FIRST_ON_LINE },
+    { "withdraw, last on a line", FULL, WITHDRAW, 0, LAST_ON_LINE },
+    { "withdraw, last, no line", FULL, WITHDRAW, 0, LAST },
 };
 enum { TESTS = sizeof tests / sizeof *tests };
 
+static uint64_t random_state;
+
 static uint64_t next_random(void)
 {
-    static uint64_t state = 88172645463325252u;
-
-    state ^= state << 13;
-    state ^= state >> 7;
-    return state ^= state << 17;
+    random_state ^= random_state << 13;
+    random_state ^= random_state >> 7;
+    return random_state ^= random_state << 17;
 }
 
 static void put(uint8_t *p, uint64_t n)
@@ -96,18 +98,20 @@ static void put(uint8_t *p, uint64_t n)
 
 /* K records, or half as many and the rest free, with key n at place n; a
  * quarter of those that are taken, at random places and not the last, are the
- * hottest and on filled lines. */
-static void fill(struct memory *m, size_t k, bool half_free)
+ * hottest and on filled lines. Of equals heats and slacks are few. */
+static void fill(struct memory *m, size_t k, enum table table)
 {
-    size_t taken = half_free ? k / 2 : k, lined = 0;
+    size_t taken = table == HALF_FREE ? k / 2 : k, lined = 0;
     uint64_t total = 0, most = 0;
 
+    random_state = 88172645463325252u; /* the same table in each case of its kind */
     memset(m, 0, sizeof *m);
     m->table_len = k * COT_RECORD_BYTES;
     m->lines_len = taken / 4 * COT_LINE_BYTES;
     for (size_t n = 0; n < taken; n++) {
         uint8_t *r = m->table + n * COT_RECORD_BYTES;
-        uint64_t heat = 50 + next_random() % 1000;
+        uint64_t heat = 50 + next_random() % (table == EQUALS ? 4 : 1000);
+        uint64_t slack = table == EQUALS ? next_random() % 8 : 3;
         size_t rest = taken - 1 - n;
         bool on_line = rest > 0 && lined < taken / 4 &&
                        (rest <= taken / 4 - lined || next_random() % 4 == 0);
@@ -121,7 +125,7 @@ static void fill(struct memory *m, size_t k, bool half_free)
         total += heat;
         put(r, n);
         put(r + HEAT, heat);
-        put(r + SLACK, 3);
+        put(r + SLACK, slack);
         put(r + STATE, on_line ? 3 + 2 * lined : 1);
         put(r + TICKET, on_line ? lined + 1 : 0);
         lined += on_line;
@@ -210,12 +214,12 @@ static bool run(const struct test *test, size_t k)
     static struct memory start, m[SIDES];
     uint64_t keys[MOST_CALLS], answers[SIDES][MOST_CALLS];
     /* Of the free records of a table half free, no more than half are taken. */
-    int calls = test->half_free && k / 4 < MOST_CALLS ? (int)k / 4 : MOST_CALLS;
+    int calls = test->table == HALF_FREE && k / 4 < MOST_CALLS ? (int)k / 4 : MOST_CALLS;
     /* The older side comes last, and may not have the call. */
     int count = test->kind == WITHDRAW && !sides[SIDES - 1].withdraw ? SIDES - 1 : SIDES;
     double best[SIDES];
 
-    fill(&start, k, test->half_free);
+    fill(&start, k, test->table);
     for (int i = 0; i < calls; i++)
         keys[i] = key_of(test->key, &start, (uint64_t)i);
     for (int s = 0; s < count; s++)
@@ -227,7 +231,8 @@ static bool run(const struct test *test, size_t k)
         }
     printf("%s|%zu", test->name, k);
     for (int s = 0; s < count; s++) {
-        if (memcmp(&m[s], &m[0], sizeof *m) != 0 || memcmp(answers[s], answers[0], (size_t)calls * sizeof **answers) != 0) {
+        if ((s < OLDER_SIDE && memcmp(&m[s], &m[0], sizeof *m) != 0) ||
+            memcmp(answers[s], answers[0], (size_t)calls * sizeof **answers) != 0) {
             fprintf(stderr, "two sides differ: %s at K = %zu\n", test->name, k);
             return false;
         }

@@ -97,25 +97,28 @@ static uint8_t *find(uint8_t *table, size_t table_len, uint64_t key)
 }
 
 /* What a walk over the table holds: the key's record, at which it stops, the
- * first free record, and the coldest without a line; NULL where there is none. */
+ * first free record, and the victim; NULL where there is none. */
 struct walk { uint8_t *own, *free_one, *victim; };
 
 static struct walk walk(uint8_t *table, size_t table_len, uint64_t key)
 {
     uint8_t *end = table + table_len;
     struct walk held = { NULL, NULL, NULL };
-    uint64_t least = UINT64_MAX;
+    uint64_t least = UINT64_MAX, most = 0; /* the victim's heat and slack */
 
     for (uint8_t *r = table; r < end; r += RECORD_BYTES) {
         uint64_t heat = get(r + HEAT);
+        uint64_t slack = get(r + SLACK);
         uint64_t state = get(r + STATE);
         if (state == FREE) {
             if (!held.free_one)
                 held.free_one = r;
             continue;
         }
-        if (heat < least && state == TRACKED) {
+        /* colder than the victim, or as cold with more slack */
+        if (heat + (slack <= most) <= least && state == TRACKED) {
             least = heat;
+            most = slack;
             held.victim = r;
         }
         if (get(r + KEY) == key) {
