@@ -105,6 +105,9 @@ uint64_t cot_fresh(uint8_t *table, size_t table_len, uint8_t *gauge, size_t gaug
                    const uint8_t *lines, size_t lines_len);
 
 /* Asks for the picture of a key. The weight is the number of pieces waiting.
+ * A key that is not tracked becomes so. If no record is free, it gets that of the coldest key
+ * without a line, which is then not tracked any more; of equally cold ones that whose heat may be
+ * too high by the most (its slack), then the first in the table.
  * The 8 bytes of ticket get the ticket if the answer is COT_WANTED + n, and else stay.
  * A weight of 0 is a look, say for a display: it tells how the key stands, COT_PASSED if it is not
  * tracked, and changes nothing but the ticket bytes of a wanted. It counts for nothing.
