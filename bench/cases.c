@@ -41,7 +41,7 @@ static const struct side {
     { older_read, older_update, older_withdraw },
 #endif
 };
-enum { SIDES = sizeof sides / sizeof *sides, OLDER_SIDE = 3 };
+enum { SIDES = sizeof sides / sizeof *sides, OLDER_SIDE = 3 }; /* the last, where it is linked */
 
 struct memory {
     size_t table_len, lines_len;

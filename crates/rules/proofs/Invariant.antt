@@ -36,6 +36,11 @@ pub record Tracks (f : ℕ → Record) (n c : ℕ) (g : Gauge) (t : Truth) : Typ
   pub levels : (chosen : ℕ → Bool) → count_where chosen n ≡ t.fewest → sum_where chosen (level g.ceiling) f n ≤ g.total
   pub total : g.total ≡ t.total
 
+-- so every other tracked record is of another class
+pub others_differ : {f : ℕ → Record} {n c : ℕ} {g : Gauge} {t : Truth} → Tracks f n c g t → (i : ℕ) → i < n → 0 < (f i).state →
+    (j : ℕ) → j < n → j ≢ i → 0 < (f j).state → (f j).key ≢ (f i).key
+others_differ s i inside tracked j below other on e = other (s.keys_apart j i below inside on tracked e)
+
 -- Of n records f, the serial, what the lines show, the pictures that the replay has, and the tickets that are stale.
 pub record Shows (f : ℕ → Record) (n serial : ℕ) (shown : ℕ → List ℕ) (pictures : ℕ → Option Filled) (stale : ℕ → ℕ) : Type 0 where
   pub latest : (i line : ℕ) → i < n → (f i).state ≡ filled_state line →

@@ -21,7 +21,7 @@ use Rattle.rules.proofs.LowerKeeps.{lowers}
 use Rattle.rules.proofs.Chosen.{where_le}
 use Rattle.rules.proofs.SameLines.{SameLine, same_lines_full}
 use Rattle.rules.proofs.Shown.{put_shows, forget_shows, stale_shows}
-use Rattle.rules.proofs.Invariant.{Tracks, Shows, Full, Hottest, HottestOver}
+use Rattle.rules.proofs.Invariant.{Tracks, others_differ, Shows, Full, Hottest, HottestOver}
 
 -- r' is r but for a loss of heat, and perhaps an emptied line
 record Eased (r r' : Record) : Type 0 where
@@ -71,8 +71,7 @@ module _ (f : ℕ → Record) (n c i w : ℕ) (inside : i < n) (tracked : 0 < (f
   unfolding update_truth
   cool_tracks g t s =
       let t' = update_truth t (f i).key w in
-      let apart : (j : ℕ) → j < n → j ≢ i → 0 < (f j).state → (f j).key ≢ (f i).key =
-      λ j h other u e. other (s.keys_apart j i h inside u tracked e) in
+      let apart = others_differ s i inside tracked in
       record {
         total_most = s.total_most;
         ceiling_most = s.ceiling_most;

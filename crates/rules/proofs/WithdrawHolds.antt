@@ -17,7 +17,7 @@ use Rattle.rules.specs.Calls.{serial_limit}
 use Rattle.rules.specs.Replay.{Truth, at, withdraw_truth, make_stale}
 use Rattle.rules.proofs.Places.{IsRecord}
 use Rattle.rules.proofs.Finds.{key_found, key_missing, hottest_found, hottest_missing}
-use Rattle.rules.proofs.Invariant.{Tracks, Full, Hottest, Holds}
+use Rattle.rules.proofs.Invariant.{Tracks, others_differ, Full, Hottest, Holds}
 use Rattle.rules.proofs.LineKeeps.{all_used, hand_full}
 use Rattle.rules.proofs.LowerKeeps.{lower_tracks}
 use Rattle.rules.proofs.Changes.{at_all}
@@ -60,7 +60,7 @@ module _ (m : Memory) (t : Truth) (stale : ℕ → ℕ) (i : ℕ) (few : m.gauge
   unfolding freed
   gone j below =
       at_all (λ j r. 0 < r.state → r.key ≢ (f i).key) i freed f (λ u. absurd (omega arith)) j
-      (λ other u e. other (h.tracks.keys_apart j i below inside u tracked e))
+      (others_differ h.tracks i inside tracked j below)
 
   unused_gone : Gone (write m i freed) (f i).key
   unused_gone = rw (places_write m i freed inside freed_is, size_write m i freed) gone
@@ -90,7 +90,7 @@ module _ (m : Memory) (t : Truth) (stale : ℕ → ℕ) (i : ℕ) (few : m.gauge
         )
         (λ k below.
         at_all (λ k r. 0 < r.state → r.key ≢ (f i).key) j _ (at i freed f)
-        (λ _ e. other (h.tracks.keys_apart j i j-inside inside (omega arith) tracked e)) k (λ _. gone k below))
+        (λ _. others_differ h.tracks i inside tracked j j-inside other (omega arith)) k (λ _. gone k below))
 
   -- what holds of both
   either : (P : Memory → Type 0) → ((1 < (f i).state → (j : ℕ) → j < size m → (f j).state ≢ 1) → P (write m i freed)) →

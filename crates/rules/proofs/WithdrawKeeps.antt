@@ -18,7 +18,7 @@ use Rattle.rules.proofs.Chosen.{where_le}
 use Rattle.rules.proofs.Changes.{at_other, at_all}
 use Rattle.rules.proofs.LineKeeps.{Off, handed, hand_hottest, unused_before, used_at}
 use Rattle.rules.proofs.Shown.{put_shows}
-use Rattle.rules.proofs.Invariant.{Tracks, Shows, Full, Hottest}
+use Rattle.rules.proofs.Invariant.{Tracks, others_differ, Shows, Full, Hottest}
 
 pub freed_off : Off freed
 unfolding freed
@@ -32,8 +32,7 @@ module _ (f : ℕ → Record) (n c i : ℕ) (inside : i < n) where
   pub freed_tracks : 0 < (f i).state → (g : Gauge) (t : Truth) → Tracks f n c g t → Tracks (at i freed f) n c g (withdraw_truth t (f i).key)
   unfolding freed withdraw_truth is_zero
   freed_tracks tracked g t s =
-      let apart : (j : ℕ) → j < n → j ≢ i → 0 < (f j).state → (f j).key ≢ (f i).key =
-      λ j h other u e. other (s.keys_apart j i h inside u tracked e) in
+      let apart = others_differ s i inside tracked in
       record {
         total_most = s.total_most;
         ceiling_most = s.ceiling_most;

@@ -135,8 +135,8 @@ fn first_step(held: Held, key: u64, i: usize, r: Record) -> Held
 }
 
 // The walk, a record further: by the key, what it holds and that record with its place. (The order is asked first, and by itself, since few
-// tracked records leave before the victim: of tests joined by `&&` the compiler makes both for every record, and the walk takes 1.4 to
-// 2.5 times as long.)
+// tracked records leave before the victim: of tests joined by `&&` the compiler makes both for every record, and the walk takes 1.3 to
+// 1.5 times as long.)
 #[tactic(auto, unfolding(rules::specs::Walk::walk_step), using(crate::proofs::Walking::held_here))]
 fn walk_step(held: Held, key: u64, i: usize, r: Record) -> Held
     requires { (i < largest) × (r.heat < largest) }
