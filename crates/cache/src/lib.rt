@@ -8,7 +8,7 @@ ghost use Rattle.rules.specs.Bytes.{record_at, record_count};
 ghost use Rattle.rules.specs.Pass.{sum_of};
 ghost use Rattle.rules.specs.Table.{most_total};
 ghost use Rattle.rules.specs.Calls.{most_records, lent, seen, fresh_outcome, read_outcome, update_outcome, fill_outcome, withdraw_outcome, age_outcome, show_line, levelled_outcome};
-ghost use Rattle.rules.specs.Answers.{number_of, answer_said, completion_said, levels_said};
+ghost use Rattle.rules.specs.Answers.{number_of, answer_said, completion_said, value_said};
 ghost use Rattle.rules.specs.Numbers.{read_said, update_number, fill_number, withdraw_number, age_number, fresh_said, levelled_said};
 ghost use Rattle.rules.specs.Steps.{outcome, fill_steps, level};
 ghost use Rattle.lines.specs.Room.{LinesFit};
@@ -247,10 +247,10 @@ fn sum_levels(part: &[u8], ceiling: u64) -> u64
 }
 
 // The sum, over all records, of the larger of heat and ceiling.
-#[tactic(auto, unfolding(rules::specs::Bytes::record_count, rules::specs::Table::places, rules::specs::Table::size, rules::specs::Calls::levelled_outcome, rules::specs::Calls::unless, rules::specs::Steps::levelled_sum, rules::specs::Numbers::levelled_said, rules::specs::Answers::levels_said))]
+#[tactic(auto, unfolding(rules::specs::Bytes::record_count, rules::specs::Table::places, rules::specs::Table::size, rules::specs::Calls::levelled_outcome, rules::specs::Calls::unless, rules::specs::Steps::levelled_sum, rules::specs::Numbers::levelled_said, rules::specs::Answers::value_said))]
 pub fn levelled_sum(table: &[u8], gauge: Gauge, lines: &[u8]) -> Result<u64, Refusal>
     ensures outcome { result ≡ levelled_outcome (lent table.now gauge lines.now) }
-    ensures said { levels_said result ≡ levelled_said (lent table.now gauge lines.now) }
+    ensures said { value_said result ≡ levelled_said (lent table.now gauge lines.now) }
 {
     plain_verdict(view(table, gauge, lines))?;
     Ok(sum_levels(table, gauge.ceiling))

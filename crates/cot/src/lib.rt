@@ -191,7 +191,7 @@ pub extern "C" fn cot_age(table: &mut [u8], gauge: &mut [u8], lines: &[u8]) -> u
 }
 
 // A levelled sum on a host's memory.
-#[tactic(auto, unfolding(rules::specs::Calls::exported_sum, rules::specs::Calls::put_levels, rules::specs::Calls::gauge_test, rules::specs::Calls::number_test, rules::specs::Calls::verdict, rules::specs::Calls::unless, rules::specs::Calls::held, rules::specs::Answers::completion_number))]
+#[tactic(auto, unfolding(rules::specs::Calls::exported_sum, rules::specs::Calls::put_value, rules::specs::Calls::gauge_test, rules::specs::Calls::number_test, rules::specs::Calls::verdict, rules::specs::Calls::unless, rules::specs::Calls::held, rules::specs::Answers::completion_number))]
 fn levelled_sum(table: &[u8], gauge: &[u8], lines: &[u8], sum: &mut [u8]) -> Result<(), Refusal>
     ensures { outcome (completion_number result) sum.new ≡ exported_sum (host_lent table.now gauge.now lines.now) sum.old }
 {

@@ -16,7 +16,7 @@ use Rattle.rules.specs.Bytes.{IsBytes, number_size, get64, gauge_size, gauge_at}
 use Rattle.rules.specs.Table.{Memory, fresh_gauge, fresh_memory}
 use Rattle.rules.specs.Answers.{Reply, number_of, completion_number}
 use Rattle.rules.specs.Steps.{Outcome, outcome}
-use Rattle.rules.specs.Calls.{sizes_good, order_good, verdict, unless, sizes_test, order_test, plain_verdict, fresh_outcome, levelled_outcome, HostRead, hosted_read, exported_read, HostMemory, held, stored, gauge_test, hosted, exported_fresh, fresh_told, number_test, put_levels, exported_sum, sum_told}
+use Rattle.rules.specs.Calls.{sizes_good, order_good, verdict, unless, sizes_test, order_test, plain_verdict, fresh_outcome, levelled_outcome, HostRead, hosted_read, exported_read, HostMemory, held, stored, gauge_test, hosted, exported_fresh, fresh_told, number_test, put_value, exported_sum, sum_told}
 use Rattle.rules.proofs.Places.{gauge_zeroed, gauge_kept}
 
 module _ (h : HostMemory) where
@@ -49,7 +49,7 @@ module _ (h : HostMemory) where
 
   module _ (sum : List ℕ) where
     pub host_sum : exported_sum h sum ≡ sum_told h sum
-    unfolding exported_sum levelled_outcome plain_verdict verdict gauge_test number_test sizes_test order_test unless put_levels number held
+    unfolding exported_sum levelled_outcome plain_verdict verdict gauge_test number_test sizes_test order_test unless put_value number held
     host_sum = go sized (eqb (length sum) number_size) good (order_good (held h)) refl refl refl refl
       where
         go : (a b c d : Bool) → sized ≡ a → eqb (length sum) number_size ≡ b → good ≡ c → order_good (held h) ≡ d → exported_sum h sum ≡ sum_told h sum

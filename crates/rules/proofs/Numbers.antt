@@ -24,7 +24,7 @@ use Rattle.rules.specs.declared.Entry.TheVariants.{Read, Update, Fill, Age, With
 use Rattle.std.specs.Prelude.{if◌then◌else◌}
 use Rattle.rules.specs.Bytes.{number_size, get64}
 use Rattle.rules.specs.Table.{Memory, is_lined, is_filled, line_of, key_record, looked_up, lookup, places, size, fresh_memory}
-use Rattle.rules.specs.Answers.{answer_number, number_of, said, completion_said, levels_said, lookup_said, entry_said, Reply, read_kind, update_kind, fill_kind, age_kind, withdraw_kind}
+use Rattle.rules.specs.Answers.{answer_number, number_of, said, completion_said, value_said, lookup_said, entry_said, Reply, read_kind, update_kind, fill_kind, age_kind, withdraw_kind}
 use Rattle.rules.specs.Steps.{Outcome, outcome, age_steps, change, update_steps, store_in, store, fill_steps, withdraw, withdraw_steps, levelled_sum}
 use Rattle.rules.specs.Calls.{unless, leaving, verdict, sizes_test, plain_verdict, update_verdict, fill_verdict, withdraw_verdict, fresh_outcome, age_outcome, update_outcome, fill_outcome, withdraw_outcome, levelled_outcome}
 use Rattle.rules.specs.Journal.{entry_size, kind_at, weight_at, key_at, picture_place, ticket_at, gaps_zero, picture_zero, weight_zero, key_zero, ticket_zero, of_form, whole_entry, decoded, entry_at}
@@ -70,11 +70,11 @@ fresh_said_lem m = go (verdict (sizes_test m ∷ []))
     go (Ok u) = refl
     go (Err n) = refl
 
-pub levelled_said_lem : (m : Memory) → levels_said (levelled_outcome m) ≡ levelled_said m
-unfolding levelled_outcome levelled_said unless levels_said
+pub levelled_said_lem : (m : Memory) → value_said (levelled_outcome m) ≡ levelled_said m
+unfolding levelled_outcome levelled_said unless value_said
 levelled_said_lem m = go (plain_verdict m)
   where
-    go : (v : Completion) → levels_said (unless v Err (Ok (levelled_sum m))) ≡ unless v (λ cause. refusal (number cause)) (said none (levelled_sum m ∷ []))
+    go : (v : Completion) → value_said (unless v Err (Ok (levelled_sum m))) ≡ unless v (λ cause. refusal (number cause)) (said none (levelled_sum m ∷ []))
     go (Ok u) = refl
     go (Err n) = refl
 

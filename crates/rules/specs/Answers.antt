@@ -80,9 +80,10 @@ unfoldable pub completion_number : Completion → ℕ
 completion_number (Ok u) = done_number
 completion_number (Err cause) = number cause
 
-unfoldable pub levels_said : Result ℕ Refusal → Said
-levels_said (Ok sum) = said none (sum ∷ [])
-levels_said (Err cause) = said (some (number cause)) []
+-- a call that is done tells a number besides
+unfoldable pub value_said : Result ℕ Refusal → Said
+value_said (Ok n) = said none (n ∷ [])
+value_said (Err cause) = said (some (number cause)) []
 
 -- with the number that a fill of such a key is refused with
 unfoldable pub lookup_said : Lookup → Said

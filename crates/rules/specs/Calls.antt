@@ -232,14 +232,14 @@ exported_read call h = outcome (number_of (hosted_read call h).answer) (hosted_r
 unfoldable pub exported_fresh : HostMemory → Outcome ℕ HostMemory
 exported_fresh h = outcome (completion_number (hosted fresh_outcome h).answer) (hosted fresh_outcome h).after
 
-unfoldable pub put_levels : List ℕ → Result ℕ Refusal → Outcome ℕ (List ℕ)
-put_levels sum (Ok n) = outcome done_number (put64 sum 0 n)
-put_levels sum (Err cause) = outcome (number cause) sum
+-- the number that a host is told, and what becomes of the 8 bytes that it lent for a value
+unfoldable pub put_value : List ℕ → Result ℕ Refusal → Outcome ℕ (List ℕ)
+put_value bytes (Ok n) = outcome done_number (put64 bytes 0 n)
+put_value bytes (Err cause) = outcome (number cause) bytes
 
--- the number that the host is told, and what becomes of the bytes that it lent for the sum
 unfoldable pub exported_sum : HostMemory → List ℕ → Outcome ℕ (List ℕ)
 exported_sum h sum =
-    unless (verdict (gauge_test h ∷ number_test sum ∷ [])) (λ cause. outcome (number cause) sum) (put_levels sum (levelled_outcome (held h)))
+    unless (verdict (gauge_test h ∷ number_test sum ∷ [])) (λ cause. outcome (number cause) sum) (put_value sum (levelled_outcome (held h)))
 
 -- ---- the same, by all tests in one row and byte by byte
 -- | Fresh: every table byte and the gauge are zero. The lines keep their bytes. .. Fresh gives only 1.
