@@ -1,5 +1,6 @@
 #!/usr/bin/env bash
-# Nanoseconds and instructions a call of the library beside the plain C version.
+# Nanoseconds and instructions a call of the library beside the plain C version,
+# rare calls and stores of a ring too.
 #   bash bench/speed.sh [--calls N]
 set -euo pipefail
 cd "$(dirname "$0")/.."
@@ -17,6 +18,7 @@ gcc "${flags[@]}" -c bench/speed.c -o "$out/speed.o"
 gcc "${flags[@]}" -c bench/plain.c -o "$out/plain.o"
 gcc "${flags[@]}" "$padding" -c bench/plain.c -o "$out/padded.o"
 gcc "${flags[@]}" -Iinclude -c bench/rare.c -o "$out/rare.o"
+gcc "${flags[@]}" -Iinclude -c bench/store.c -o "$out/store.o"
 gcc "${flags[@]}" "$padding" -o "$out/width" bench/width.c
 
 # The place of a loop in memory changes its speed. The programs are linked at
@@ -28,6 +30,7 @@ for place in 16 32 48 64; do
         gcc -o "$out/$version-$place" "$out/place.o" "$out/speed.o" "$out/$version.o" "$library" -lm
     done
     gcc -o "$out/rare-$place" "$out/place.o" "$out/rare.o" "$out/plain.o" "$library" -lm
+    gcc -o "$out/store-$place" "$out/place.o" "$out/store.o" "$library" -lm
 done
 
 echo "machine: $(awk -F": " "/^model name/ { print \$2; exit }" /proc/cpuinfo), $(nproc) processors; $(gcc --version | head -n 1)"
@@ -71,6 +74,27 @@ awk -F'|' '
         for (i = 1; i <= n; i++)
             printf "|%s|%s|%s| %5.2f |\n", rows[i], library[rows[i]], plain[rows[i]], library[rows[i]] / plain[rows[i]]
     }' "$out"/rare-{16,32,48,64}.txt
+
+echo
+echo "Nanoseconds a call for a key's store, best of all runs:"
+echo
+for place in 16 32 48 64; do
+    "$out/store-$place" > "$out/store-$place.txt"
+done
+awk -F'|' '
+    FNR < 3 { if (NR == FNR) print; next }
+    { row = $2 "|" $3 }
+    !(row in library) { rows[++n] = row; library[row] = $4; pairs[row] = $5; qsort[row] = $7 }
+    $4 + 0 < library[row] + 0 { library[row] = $4 }
+    $5 + 0 < pairs[row] + 0 { pairs[row] = $5 }
+    $7 + 0 < qsort[row] + 0 { qsort[row] = $7 }
+    END {
+        for (i = 1; i <= n; i++) {
+            row = rows[i]
+            printf "|%s|%s|%s| %5.2f |%s| %5.2f |\n", row, library[row], pairs[row],
+                   library[row] / pairs[row], qsort[row], library[row] / qsort[row]
+        }
+    }' "$out"/store-{16,32,48,64}.txt
 
 echo
 echo "Nanoseconds an order test in plain C, by the width of a record:"

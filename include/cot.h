@@ -9,14 +9,18 @@
  *   ticket   COT_TICKET_BYTES, a 64-bit number as in the gauge, written by a cot_read that answers
  *            wanted
  *   sum      COT_SUM_BYTES, a 64-bit number as in the gauge, written by cot_levelled_sum
- * All that the cache knows is in the first three.
+ *   ring     1 to COT_MOST_POINTS points of COT_POINT_BYTES, see cot_store
+ *   store    COT_STORE_BYTES, a 64-bit number as in the gauge, written by cot_store
+ * All that the cache knows is in the first three. The ring is the host's own: cot_store reads it,
+ * no other call does, and nothing of it is kept.
  *
  * A length is in bytes. Each pointer must be good for its length. A length of 0 may come with any
  * pointer, NULL too. The buffers of one call must not overlap. Any alignment will do.
  *
  * To start with a fresh cache, call cot_fresh, or set every byte of the table and of the gauge to
  * zero, which is the same. The lines may hold any bytes. From then on lend the same three buffers,
- * whole, to each call, and let only the library write to them. The host may read them at any time
+ * whole, to each call but cot_store, which takes none of them, and let only the library write to
+ * them. The host may read them at any time
  * between calls.
  *
  * Use the line of a hit before the next call: any later read of a weight over 0, update, withdrawal
@@ -35,8 +39,9 @@
  * under way before it.
  *
  * Calls on the same buffers must not run at the same time, looks (see cot_read) included: the
- * library takes no lock. Calls on different buffers may. A call takes less than 2 KiB of stack, and
- * returns.
+ * library takes no lock. Calls on different buffers may, and so may calls of cot_store on one ring,
+ * each with store bytes of its own, while nobody writes to the ring. A call takes less than 2 KiB
+ * of stack, cot_store less than 12 KiB, and returns.
  *
  * docs/FORMATS.md has the fields of a record and when a table is in order; a host needs neither.
  *
@@ -58,11 +63,14 @@ extern "C" {
 #define COT_GAUGE_BYTES 24
 #define COT_TICKET_BYTES 8
 #define COT_SUM_BYTES 8
+#define COT_POINT_BYTES 16
+#define COT_STORE_BYTES 8
 
 /* Limits. */
 #define COT_MOST_RECORDS 1024
 #define COT_MOST_WEIGHT 65535
 #define COT_MOST_TOTAL 4294967295 /* L: a read that would pass it ages first */
+#define COT_MOST_POINTS 1024
 
 /* With a serial of this or more, reads of a weight over 0, updates, fills and withdrawals are
  * refused, and a fresh start is what is left. No host comes to it: with a line taken a billion
@@ -70,11 +78,11 @@ extern "C" {
 #define COT_MOST_SERIAL UINT64_C(9223372036854775808)
 
 /* Returned by a refused call: 1 to 99, see cot_is_refused. The tests come in this order: sizes;
- * weight or picture; order; serial; no line; filled; ticket. Form and short are the replay
- * program's: no call here returns them. */
+ * weight or picture; order; serial; no line; filled; ticket. Of cot_store: sizes; ring; doubled.
+ * Form and short are the replay program's: no call here returns them. */
 #define COT_REFUSED_SIZES 1   /* table not whole records, K outside 1 to 1,024, lines not whole,
-                                 C not under K, gauge bytes not 24, ticket bytes not 8, or sum
-                                 bytes not 8 */
+                                 C not under K, gauge bytes not 24, or ticket, sum or store bytes
+                                 not 8 */
 #define COT_REFUSED_WEIGHT 2  /* read or update: weight over 65,535; update: weight 0 */
 #define COT_REFUSED_ORDER 3   /* the table is not in order */
 #define COT_REFUSED_PICTURE 4 /* fill: the picture has not 64 bytes */
@@ -85,9 +93,11 @@ extern "C" {
 #define COT_REFUSED_TICKET 9  /* fill: the ticket is not the one that the key has now */
 #define COT_REFUSED_SERIAL 10 /* read of a weight over 0, update, fill or withdraw: COT_MOST_SERIAL
                                  reached */
+#define COT_REFUSED_DOUBLED 11 /* store: two points of the ring at one position */
+#define COT_REFUSED_RING 12    /* store: a ring of no point, over 1,024, or not whole points */
 
 /* Returned by an accepted call. */
-#define COT_DONE 0        /* fresh, levelled sum */
+#define COT_DONE 0        /* fresh, levelled sum, store */
 #define COT_AGED 100      /* age */
 #define COT_CHANGED 101   /* update: the key is tracked; a line it had is empty or another's now */
 #define COT_UNKNOWN 102   /* update, withdraw: the key is not tracked; nothing has changed */
@@ -156,6 +166,21 @@ uint64_t cot_levelled_sum(const uint8_t *table, size_t table_len, const uint8_t 
                           size_t gauge_len, const uint8_t *lines, size_t lines_len, uint8_t *sum,
                           size_t sum_len);
 
+/* Tells which of several stores a key's picture is fetched from.
+ * Each point of the ring is a 64-bit position and then a 64-bit store number, as in the gauge; see
+ * cot_put_point. The points may come in any order. A store may have several: that spreads the keys
+ * more evenly. The position is the key's own, such as a hash of the key: all hosts that share
+ * stores should make it in the same way. The key's point is the next one clockwise, be it at the
+ * key's own position: that for which the point's position minus the key's, wrapped at 64 bits, is
+ * the smallest. The 8 bytes of store get the number of that point's store; a refused call leaves
+ * them.
+ * If a point is added, a key keeps its point or now has the new one; if a point is taken out, only
+ * keys that had it get another. The ring may be lent in another order or with other points at the
+ * next call: nothing of it is kept.
+ * Returns COT_DONE; refused: sizes, ring, doubled. */
+uint64_t cot_store(const uint8_t *ring, size_t ring_len, uint64_t position, uint8_t *store,
+                   size_t store_len);
+
 /* 1 if the returned number is that of a refused call, else 0. */
 static inline int cot_is_refused(uint64_t number)
 {
@@ -180,13 +205,30 @@ static inline size_t cot_line(uint64_t number)
     return (size_t)(number - (number >= COT_WANTED ? COT_WANTED : COT_HIT));
 }
 
-/* The number in the 8 bytes of a ticket, least significant byte first. */
-static inline uint64_t cot_ticket(const uint8_t ticket[COT_TICKET_BYTES])
+/* The number in 8 bytes, least significant byte first: a ticket, a sum or a store, or one of the
+ * gauge's. */
+static inline uint64_t cot_number(const uint8_t bytes[8])
 {
     uint64_t number = 0;
-    for (int i = COT_TICKET_BYTES - 1; i >= 0; i--)
-        number = number << 8 | ticket[i];
+    for (int i = 7; i >= 0; i--)
+        number = number << 8 | bytes[i];
     return number;
+}
+
+/* The number in the 8 bytes of a ticket. */
+static inline uint64_t cot_ticket(const uint8_t ticket[COT_TICKET_BYTES])
+{
+    return cot_number(ticket);
+}
+
+/* Writes the point at a place, counted from 0, of a ring that has room for it. */
+static inline void cot_put_point(uint8_t *ring, size_t place, uint64_t position, uint64_t store)
+{
+    uint8_t *point = ring + COT_POINT_BYTES * place;
+    for (int i = 0; i < 8; i++) {
+        point[i] = (uint8_t)(position >> 8 * i);
+        point[8 + i] = (uint8_t)(store >> 8 * i);
+    }
 }
 
 #ifdef __cplusplus

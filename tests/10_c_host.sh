@@ -1,6 +1,6 @@
 #!/bin/sh
-# The C host: the header as C and as C++, examples/host.c, and document 01's sample calls with the
-# edges, looks, tickets, withdrawals, equals, fresh and levelled sums.
+# The C host: the header as C and as C++, examples/host.c and examples/stores.c, and document 01's
+# sample calls with the edges, looks, tickets, withdrawals, equals, stores, fresh and levelled sums.
 set -eu
 cd "$(dirname "$0")/.."
 
@@ -28,5 +28,7 @@ run() {
 }
 
 run host examples/host.c
+run stores examples/stores.c
 run sample tests/c/sample.c
-echo "10_c_host: header good as C and C++; host.c and $(wc -l <tests/c/sample.expected) sample lines as expected"
+echo "10_c_host: header good as C and C++; host.c, stores.c and" \
+    "$(wc -l <tests/c/sample.expected) sample lines as expected"

@@ -50,6 +50,15 @@ fault victim-least-slack 'single call.* difference: table byte [0-9]* (record [0
 fault victim-low-half 'single call.* difference: table byte [0-9]* (record [0-9]*, key) is '
 # Another's line is taken.
 fault coldest-by-slack 'single call.* difference: returned 4[0-9][0-9][0-9], the model 4[0-9][0-9][0-9]'
+# Another store.
+fault ring-key-minus-point 'random ring [0-9]*: difference: store byte [0-7] is '
+fault ring-no-wrap 'random ring [0-9]*: difference: store byte [0-7] is '
+fault ring-low-half 'random ring [0-9]*: difference: store byte [0-7] is '
+fault ring-largest 'random ring [0-9]*: difference: store byte [0-7] is '
+# The other one of two refusals, and a ring that the library refuses and the model does not.
+fault ring-doubled-first 'random ring [0-9]*: difference: returned 12, the model 11$'
+fault ring-neighbours-only 'random ring [0-9]*: difference: returned 11, the model 0; '
 echo "20_compare: no difference; the deliberate faults admit-equal, fresh-keeps, sum-heat," \
     "look-warms, keeps-ticket, ticket-on-hit, any-ticket, free-takes-line, victim-by-heat," \
-    "victim-least-slack, victim-low-half and coldest-by-slack are found"
+    "victim-least-slack, victim-low-half, coldest-by-slack, ring-key-minus-point, ring-no-wrap," \
+    "ring-low-half, ring-largest, ring-doubled-first and ring-neighbours-only are found"

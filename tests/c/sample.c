@@ -1,5 +1,5 @@
 /* sample.c: document 01's thirteen sample calls, the edges for K = 3, C = 1, document 02's looks,
- * tickets, withdrawals and equals, fresh, levelled sums and the helpers of cot.h.
+ * tickets, withdrawals, equals and stores, fresh, levelled sums and the helpers of cot.h.
  *
  * Prints each returned number, with the line of a hit or a wanted and the ticket of a wanted, and
  * the gauge after the call. A refused call must leave all lent memory as it was, and a read that
@@ -750,6 +750,86 @@ static void order_of_tests(void)
     call_fill("filled before ticket", 5, 1);
 }
 
+static uint8_t ring[COT_POINT_BYTES * (COT_MOST_POINTS + 1)], store[16];
+static size_t ring_len, store_len;
+
+/* Prints what is returned, the store if there is one, and what has become of the lent bytes. */
+static void call_store(const char *name, uint64_t position)
+{
+    static uint8_t ring_before[sizeof ring], store_before[sizeof store];
+
+    memset(store, 0x5a, sizeof store);
+    memcpy(ring_before, ring, sizeof ring);
+    memcpy(store_before, store, sizeof store);
+    uint64_t number = cot_store(lent(ring, ring_len), ring_len, position, lent(store, store_len),
+                                store_len);
+    printf("%s: %" PRIu64, name, number);
+    if (number == COT_DONE)
+        printf(", store %" PRIu64, cot_number(store));
+    size_t written = number == COT_DONE ? COT_STORE_BYTES : 0;
+    int kept = memcmp(ring, ring_before, sizeof ring) == 0 &&
+               memcmp(store + written, store_before + written, sizeof store - written) == 0;
+    printf(", %s\n", kept ? "all else as it was" : "MEMORY CHANGED");
+}
+
+static void put_points(size_t n, const uint64_t points[][2])
+{
+    for (size_t i = 0; i < n; i++)
+        cot_put_point(ring, i, points[i][0], points[i][1]);
+    ring_len = n * COT_POINT_BYTES;
+    store_len = COT_STORE_BYTES;
+}
+
+/* The next point clockwise, past the largest position to 0, whatever the order of the list. */
+static void stores(void)
+{
+    static const uint64_t three[][2] = {{20, 2}, {10, 1}, {4000, 3}};
+    static const uint64_t ends[][2] = {{5, 50}, {0, 7}, {UINT64_MAX, UINT64_MAX - 1}};
+    static const uint64_t doubled[][2] = {{10, 1}, {20, 2}, {10, 1}};
+
+    put_points(3, three);
+    call_store("store, on a point", 10);
+    call_store("store, just behind a point", 9);
+    call_store("store, just past a point", 11);
+    call_store("store, far from the next point", 21);
+    call_store("store, past the last point", 4001);
+    put_points(1, three);
+    call_store("store, one point", 21);
+    put_points(3, ends);
+    call_store("store, at 0", 0);
+    call_store("store, past 0", 1);
+    call_store("store, at the largest position", UINT64_MAX);
+    call_store("store, before the largest position", UINT64_MAX - 1);
+    put_points(2, ends);
+    call_store("store, from the largest position to 0", UINT64_MAX);
+    put_points(3, doubled);
+    call_store("store, two points at one position", 15);
+    ring_len -= 1;
+    call_store("store, two points and 15 bytes", 15);
+    store_len = 7;
+    call_store("store bytes before ring", 15);
+    ring_len += 1;
+    call_store("store bytes before doubled", 15);
+    store_len = 9;
+    call_store("9 store bytes", 15);
+    store_len = 0;
+    call_store("no store bytes", 15);
+    store_len = 8;
+    ring_len = 0;
+    call_store("store, no point", 15);
+    for (size_t i = 0; i < COT_MOST_POINTS + 1; i++)
+        cot_put_point(ring, i, 1000 * i, i);
+    ring_len = COT_MOST_POINTS * COT_POINT_BYTES;
+    call_store("store, 1,024 points", 1022001);
+    call_store("store, 1,024 points, past the last", 1023001);
+    ring_len += COT_POINT_BYTES;
+    call_store("store, 1,025 points", 15);
+    cot_put_point(ring, 1023, 0, 9);
+    call_store("store, ring before doubled", 15);
+    ring_len -= COT_POINT_BYTES;
+    call_store("store, the first and the last of 1,024 at one position", 15);
+}
+
 /* What the helpers of cot.h say of a number. */
 static void helpers(void)
 {
@@ -770,6 +850,12 @@ static void helpers(void)
     for (int i = 0; i < COT_TICKET_BYTES; i++)
         ticket[i] = (uint8_t)(0xf8 + i);
     printf("ticket of bytes f8 to ff: %" PRIx64 "\n", cot_ticket(ticket));
+    cot_put_point(ring, 1, UINT64_C(0x0102030405060708), UINT64_C(0x1112131415161718));
+    printf("point in bytes 16 to 31:");
+    for (int i = 16; i < 32; i++)
+        printf(" %02x", ring[i]);
+    printf("\nits numbers: %" PRIx64 " %" PRIx64 "\n", cot_number(ring + 16),
+           cot_number(ring + 24));
 }
 
 int main(void)
@@ -787,6 +873,7 @@ int main(void)
     limits();
     not_in_order();
     order_of_tests();
+    stores();
     helpers();
     return 0;
 }

@@ -1,7 +1,7 @@
 //! Lent memory with guard bytes, the calls into libcot.a, and their comparison with the model.
 
-use crate::model::{gauge_of, number_at, records_of, Call, Model, Path};
-use crate::model::{GAUGE_BYTES, LINE_BYTES, RECORD_BYTES, SUM_BYTES, TICKET_BYTES};
+use crate::model::{gauge_of, number_at, points_of, records_of, Call, Model, Path};
+use crate::model::{GAUGE_BYTES, LINE_BYTES, POINT_BYTES, RECORD_BYTES, SUM_BYTES, TICKET_BYTES};
 use crate::random::Random;
 
 #[link(name = "cot", kind = "static")]
@@ -74,6 +74,13 @@ extern "C" {
         lines_len: usize,
         sum: *mut u8,
         sum_len: usize,
+    ) -> u64;
+    fn cot_store(
+        ring: *const u8,
+        ring_len: usize,
+        position: u64,
+        store: *mut u8,
+        store_len: usize,
     ) -> u64;
 }
 
@@ -317,6 +324,47 @@ impl<'a> Both<'a> {
     }
 }
 
+/// Asks the library and the model which store a key at this position is fetched from, each lent the
+/// same ring and the same bytes for the store's number, and compares the returned number and every
+/// byte, lent and guard. Gives the number and the store bytes after the call, or what differs.
+pub fn store(
+    model: &Model,
+    ring: &[u8],
+    position: u64,
+    store: &[u8],
+    random: &mut Random,
+    path: &mut Path,
+) -> Result<(u64, Vec<u8>), String> {
+    let models_ring = Lent::new(ring, random);
+    let mut models_store = Lent::new(store, random);
+    let mut librarys_ring = models_ring.clone();
+    let mut librarys_store = models_store.clone();
+
+    let lent = models_store.bytes_mut();
+    let expected = model
+        .store(models_ring.bytes(), position, lent, path)
+        .number();
+    let [(points, p), (lent, s)] =
+        [&mut librarys_ring, &mut librarys_store].map(|lent| (lent.pointer_mut(), lent.len));
+    // SAFETY: each pointer is good for its length, or the length is 0. The two do not overlap.
+    let found = unsafe { cot_store(points, p, position, lent, s) };
+
+    let mut different = Vec::new();
+    if found != expected {
+        different.push(format!("returned {found}, the model {expected}"));
+    }
+    different.extend(difference("store", &models_store, &librarys_store));
+    different.extend(difference("ring", &models_ring, &librarys_ring));
+    if different.is_empty() {
+        return Ok((found, librarys_store.bytes().to_vec()));
+    }
+    Err(format!(
+        "difference: {}\n{}",
+        different.join("; "),
+        describe_ring(ring, position, store)
+    ))
+}
+
 /// The first byte that differs, and how many do.
 fn difference(name: &str, models: &Lent, librarys: &Lent) -> Option<String> {
     if models.all == librarys.all {
@@ -334,6 +382,10 @@ fn difference(name: &str, models: &Lent, librarys: &Lent) -> Option<String> {
         let at = at - start;
         let field = ["key", "heat", "slack", "state", "ticket"][at % RECORD_BYTES / 8];
         format!("table byte {at} (record {}, {field})", at / RECORD_BYTES)
+    } else if name == "ring" {
+        let at = at - start;
+        let field = ["position", "store"][at % POINT_BYTES / 8];
+        format!("ring byte {at} (point {}, {field})", at / POINT_BYTES)
     } else {
         format!("{name} byte {}", at - start)
     };
@@ -366,9 +418,32 @@ pub fn call_text(call: &Call) -> String {
     }
 }
 
+/// Records or points that are printed in full.
+const MOST: usize = 64;
+
+/// The key's position, and the ring and store bytes before the call, in full for a small ring.
+fn describe_ring(ring: &[u8], position: u64, store: &[u8]) -> String {
+    let mut text = format!(
+        "  store of a key at {position}\n  ring {} bytes, store {} bytes",
+        ring.len(),
+        store.len()
+    );
+    text += &format!("\n  before: store {store:02x?}");
+    let points = points_of(ring);
+    for (place, point) in points.iter().enumerate().take(MOST) {
+        text += &format!(
+            "\n  point {place}: position {} store {}",
+            point.position, point.store
+        );
+    }
+    if points.len() > MOST {
+        text += &format!("\n  and {} points more", points.len() - MOST);
+    }
+    text
+}
+
 /// The call and the memory before it, in full for a small table.
 fn describe(before: &Memory, call: &Call) -> String {
-    const MOST: usize = 64;
     let table = before.table.bytes();
     let gauge = before.gauge.bytes();
     let mut text = format!("  {}", call_text(call));

@@ -3,9 +3,10 @@
 //!
 //!     compare [--seed N] [--calls N] [--verbose] [--fault NAME]
 //!
-//! --calls is the number of single calls in group (a); lists grow with it. Fewer than 200,000 may
-//! be too few for every answer to come. --verbose prints the counts and the names of the tests.
-//! --fault gives the model a deliberate fault (FAULTS), and the comparison must then fail.
+//! --calls is the number of single calls in group (a); lists and random rings grow with it. Fewer
+//! than 200,000 may be too few for every answer to come. --verbose prints the counts and the names
+//! of the tests. --fault gives the model a deliberate fault (FAULTS): the groups that it concerns
+//! are run, and the comparison must then fail.
 
 mod damaged;
 mod examples;
@@ -13,6 +14,7 @@ mod harness;
 mod lists;
 mod model;
 mod random;
+mod ring;
 
 use model::{Fault, Model};
 use std::collections::BTreeMap;
@@ -21,7 +23,7 @@ use std::process::exit;
 const SEED: u64 = 20_210_323;
 const CALLS: u64 = 400_000;
 const USAGE: &str = "compare [--seed N] [--calls N] [--verbose] [--fault NAME]";
-const FAULTS: [(&str, Fault); 12] = [
+const FAULTS: [(&str, Fault); 18] = [
     ("admit-equal", Fault::AdmitEqual),
     ("fresh-keeps", Fault::FreshKeeps),
     ("sum-heat", Fault::SumHeat),
@@ -34,6 +36,12 @@ const FAULTS: [(&str, Fault); 12] = [
     ("victim-least-slack", Fault::VictimLeastSlack),
     ("victim-low-half", Fault::VictimLowHalf),
     ("coldest-by-slack", Fault::ColdestBySlack),
+    ("ring-key-minus-point", Fault::RingKeyMinusPoint),
+    ("ring-no-wrap", Fault::RingNoWrap),
+    ("ring-low-half", Fault::RingLowHalf),
+    ("ring-largest", Fault::RingLargest),
+    ("ring-doubled-first", Fault::RingDoubledFirst),
+    ("ring-neighbours-only", Fault::RingNeighboursOnly),
 ];
 
 /// How often each answer and each step came.
@@ -164,10 +172,17 @@ fn main() {
         exit(2);
     });
     let mut tally = Tally::default();
-    single_calls(&options, &mut tally);
-    lists_from_fresh(&options, &mut tally);
-    lists_past_the_limit(&options, &mut tally);
-    paper_examples(&options, &mut tally);
+    let fault = options.model.fault;
+    if !fault.is_some_and(Fault::is_of_rings) {
+        single_calls(&options, &mut tally);
+        lists_from_fresh(&options, &mut tally);
+        lists_past_the_limit(&options, &mut tally);
+        paper_examples(&options, &mut tally);
+    }
+    if fault.map_or(true, Fault::is_of_rings) {
+        random_rings(&options, &mut tally);
+        ring_examples(&options, &mut tally);
+    }
     println!("{} passed, {} failed", tally.passed, tally.failed);
     exit(if tally.failed == 0 { 0 } else { 1 });
 }
@@ -260,7 +275,43 @@ fn lists_past_the_limit(options: &Options, tally: &mut Tally) {
 
 /// Group (d).
 fn paper_examples(options: &Options, tally: &mut Tally) {
-    for (name, sentence, test) in examples::EXAMPLES {
+    examples(&examples::EXAMPLES, options, tally);
+    tally.end_group(&format!(
+        "(d) {} examples of documents 01 and 02",
+        examples::EXAMPLES.len()
+    ));
+}
+
+/// Group (e).
+fn random_rings(options: &Options, tally: &mut Tally) {
+    let mut counts = Counts::default();
+    let rings = (options.calls / 80).max(5_000);
+    let result = ring::run(options.seed, rings, &options.model, &mut counts);
+    let calls = tally.test(result).unwrap_or(0);
+    let answers = ring::ANSWERS.map(|name| {
+        let (_, answer) = name.split_once(' ').expect("two words");
+        format!("{answer}: {}", counts.of(name))
+    });
+    tally.end_group(&format!(
+        "(e) {calls} calls for a store on {rings} random rings; store {}",
+        answers.join(", ")
+    ));
+    if options.verbose {
+        counts.print();
+    }
+}
+
+/// Group (f).
+fn ring_examples(options: &Options, tally: &mut Tally) {
+    examples(&ring::EXAMPLES, options, tally);
+    tally.end_group(&format!(
+        "(f) {} examples of stores and rings, with every wrong length of a ring",
+        ring::EXAMPLES.len()
+    ));
+}
+
+fn examples(examples: &[examples::Example], options: &Options, tally: &mut Tally) {
+    for (name, sentence, test) in examples {
         let result = test(&options.model, options.seed);
         if options.verbose {
             let word = if result.is_ok() { "ok" } else { "FAILED" };
@@ -268,8 +319,4 @@ fn paper_examples(options: &Options, tally: &mut Tally) {
         }
         tally.test(result.map_err(|text| format!("{name}: \"{sentence}\"\n{text}")));
     }
-    tally.end_group(&format!(
-        "(d) {} examples of documents 01 and 02",
-        examples::EXAMPLES.len()
-    ));
 }

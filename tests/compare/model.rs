@@ -1,9 +1,9 @@
 //! The rules of document 01 for the exported calls, with document 02's requests as landed (Asks 1, 2,
-//! 4 and 5, and Ask 3, by which "Answers and lent bytes stay"), and the replay of demand 3.
+//! 4, 5 and 6, and Ask 3, by which "Answers and lent bytes stay"), and the replay of demand 3.
 //!
 //! In document 01's order, and independent of the library's code. Words in quotes are the
-//! documents'; document 02's on tickets are those of its Ask 2, on withdrawals of its Ask 4, and on
-//! the victim of its Ask 5.
+//! documents'; document 02's on tickets are those of its Ask 2, on withdrawals of its Ask 4, on the
+//! victim of its Ask 5, and on rings of its Ask 6.
 
 use std::collections::BTreeMap;
 
@@ -1033,6 +1033,33 @@ pub enum Fault {
     VictimLowHalf,
     /// Of equally cold records on lines, the one with the largest slack loses its line.
     ColdestBySlack,
+    /// The clockwise distance is key position minus point.
+    RingKeyMinusPoint,
+    /// The clockwise distance is not wrapped: how far the two numbers are from each other.
+    RingNoWrap,
+    /// Of the clockwise distance only the low 32 bits count.
+    RingLowHalf,
+    /// The store is that of the point with the largest distance.
+    RingLargest,
+    /// Cause 11 is tested before cause 12, on the whole points that there are.
+    RingDoubledFirst,
+    /// For cause 11 a point's position is compared with the next one's only.
+    RingNeighboursOnly,
+}
+
+impl Fault {
+    /// Whether it is one of the call for a store, which is compared in groups of its own.
+    pub fn is_of_rings(self) -> bool {
+        matches!(
+            self,
+            Fault::RingKeyMinusPoint
+                | Fault::RingNoWrap
+                | Fault::RingLowHalf
+                | Fault::RingLargest
+                | Fault::RingDoubledFirst
+                | Fault::RingNeighboursOnly
+        )
+    }
 }
 
 /// The calls on lent bytes.
@@ -1156,6 +1183,57 @@ impl Model {
         answer
     }
 
+    /// Asks which store a key is fetched from, by the key's own position. A done writes the store's
+    /// number into the lent 8 bytes, and no ring is changed.
+    pub fn store(&self, ring: &[u8], position: u64, store: &mut [u8], path: &mut Path) -> Answer {
+        if wrong_store(store) {
+            return Answer::Refused(1);
+        }
+        let points = points_of(ring);
+        let neighbours_only = self.fault == Some(Fault::RingNeighboursOnly);
+        let doubled_first = self.fault == Some(Fault::RingDoubledFirst);
+        if doubled_first && doubled_positions(&points, neighbours_only) {
+            return Answer::Refused(11);
+        }
+        let causes = wrong_ring(ring);
+        if !causes.is_empty() {
+            if causes.len() == 1 {
+                path.push(causes[0]);
+            }
+            return Answer::Refused(12);
+        }
+        if doubled_positions(&points, neighbours_only) {
+            return Answer::Refused(11);
+        }
+        let place = self.nearest(&points, position);
+        put_number(store, 0, points[place].store);
+        name_distance(&points, place, position, path);
+        Answer::Done
+    }
+
+    /// "that of the point with the smallest clockwise distance": the place of that point, of points
+    /// at different positions.
+    fn nearest(&self, points: &[Point], position: u64) -> usize {
+        let far = |place: usize| match self.fault {
+            Some(Fault::RingKeyMinusPoint) => clockwise(points[place].position, position),
+            Some(Fault::RingNoWrap) => points[place].position.abs_diff(position),
+            Some(Fault::RingLowHalf) => clockwise(position, points[place].position) & 0xffff_ffff,
+            _ => clockwise(position, points[place].position),
+        };
+        let mut nearest = 0;
+        for place in 1..points.len() {
+            let nearer = if self.fault == Some(Fault::RingLargest) {
+                far(place) > far(nearest)
+            } else {
+                far(place) < far(nearest)
+            };
+            if nearer {
+                nearest = place;
+            }
+        }
+        nearest
+    }
+
     /// "Fresh: every table byte and the gauge are zero. The lines keep their bytes." The serial is in
     /// the gauge.
     fn fresh(&self, table: &mut [u8], gauge: &mut [u8]) {
@@ -1178,4 +1256,112 @@ pub fn levelled_sum(records: &[Record], ceiling: u64) -> u128 {
         .iter()
         .map(|record| u128::from(heat(record).max(ceiling)))
         .sum()
+}
+
+// ---------------------------------------------------------------------------------------------
+// "Which store to fetch from"
+// ---------------------------------------------------------------------------------------------
+
+/// "points, each 16 bytes"
+pub const POINT_BYTES: usize = 16;
+/// "1 to 1,024 points"
+pub const MOST_POINTS: usize = 1_024;
+/// "a number in 8 bytes": what the store's number is written into.
+pub const STORE_BYTES: usize = 8;
+
+/// "a 64-bit position and a 64-bit store number"
+#[derive(Clone, Copy, Debug, PartialEq, Eq)]
+pub struct Point {
+    pub position: u64,
+    pub store: u64,
+}
+
+/// The whole points of a ring: "Any other lent list has its fields in the order named: a number in
+/// 8 bytes in the same byte order".
+pub fn points_of(ring: &[u8]) -> Vec<Point> {
+    (0..ring.len() / POINT_BYTES)
+        .map(|place| Point {
+            position: number_at(ring, POINT_BYTES * place),
+            store: number_at(ring, POINT_BYTES * place + 8),
+        })
+        .collect()
+}
+
+/// The bytes of a ring.
+pub fn ring_of(points: &[Point]) -> Vec<u8> {
+    let mut ring = vec![0; POINT_BYTES * points.len()];
+    for (place, point) in points.iter().enumerate() {
+        put_number(&mut ring, POINT_BYTES * place, point.position);
+        put_number(&mut ring, POINT_BYTES * place + 8, point.store);
+    }
+    ring
+}
+
+/// "clockwise distance, which is point minus key position, wrapped at 64 bits": the way from one
+/// position up to another, past 2^64 - 1 to 0 where need be.
+fn clockwise(from: u64, to: u64) -> u64 {
+    const WHOLE: u128 = 1 << 64;
+    ((u128::from(to) + WHOLE - u128::from(from)) % WHOLE) as u64
+}
+
+/// Cause 12: "a ring of no point, over 1,024 or not whole points". Names the parts that hold.
+pub fn wrong_ring(ring: &[u8]) -> Path {
+    let mut path = Path::new();
+    if ring.is_empty() {
+        path.push("12: no point");
+    }
+    if ring.len() % POINT_BYTES != 0 {
+        path.push("12: not whole points");
+    }
+    if ring.len() / POINT_BYTES > MOST_POINTS {
+        path.push("12: over 1,024 points");
+    }
+    path
+}
+
+/// Cause 11: "two points at one position".
+pub fn doubled_positions(points: &[Point], neighbours_only: bool) -> bool {
+    for (place, point) in points.iter().enumerate() {
+        let later = &points[place + 1..];
+        let tested = if neighbours_only {
+            later.len().min(1)
+        } else {
+            later.len()
+        };
+        for other in &later[..tested] {
+            if other.position == point.position {
+                return true;
+            }
+        }
+    }
+    false
+}
+
+/// A part of cause 1: the bytes for the store's number are not 8.
+fn wrong_store(store: &[u8]) -> bool {
+    store.len() != STORE_BYTES
+}
+
+/// Names where the key stands to the points, and where its own point is in the list.
+fn name_distance(points: &[Point], place: usize, position: u64, path: &mut Path) {
+    let own = points[place].position;
+    if own == position {
+        path.push("store: distance 0");
+    } else if own < position {
+        path.push("store: wraps");
+    } else {
+        path.push("store: ahead");
+    }
+    if clockwise(position, own) == 1 {
+        path.push("store: distance 1");
+    }
+    if clockwise(position, own) >= 1 << 63 {
+        path.push("store: distance of 2^63 or more");
+    }
+    if points.len() > 1 && place == 0 {
+        path.push("store: the first point");
+    }
+    if points.len() > 1 && place + 1 == points.len() {
+        path.push("store: the last point");
+    }
 }

@@ -9,6 +9,7 @@ ghost use Rattle.rules.specs.Answers.{number_of, completion_number};
 ghost use Rattle.rules.specs.Table.{Memory};
 ghost use Rattle.rules.specs.Steps.{Outcome, outcome};
 ghost use Rattle.rules.specs.Calls.{lent, host_lent, hosted, read_lent, put_ticket, exported, exported_read, read_outcome, update_outcome, fill_outcome, withdraw_outcome, age_outcome, exported_fresh, exported_sum};
+ghost use Rattle.ring.specs.Ring.{exported_store};
 
 use records::{get_u64, put_u64};
 use rules::{Answer, Gauge, Refusal};
@@ -207,4 +208,22 @@ pub extern "C" fn cot_levelled_sum(table: &[u8], gauge: &[u8], lines: &[u8], sum
     ensures { outcome result sum.new ≡ exported_sum (host_lent table.now gauge.now lines.now) sum.old }
 {
     completion_number(levelled_sum(table, gauge, lines, sum))
+}
+
+// A store on a host's memory.
+#[tactic(auto, unfolding(ring::specs::Ring::exported_store, rules::specs::Calls::put_value, rules::specs::Calls::number_test, rules::specs::Calls::verdict, rules::specs::Calls::unless, rules::specs::Answers::completion_number))]
+fn store_of(ring: &[u8], position: u64, store: &mut [u8]) -> Result<(), Refusal>
+    ensures { outcome (completion_number result) store.new ≡ exported_store ring.now position store.old }
+{
+    let store: &mut [u8; NUMBER_SIZE] = store.as_mut_array().ok_or(Refusal::WrongSizes)?;
+    put_u64(store, 0, ring::store_of(ring, position)?);
+    Ok(())
+}
+
+// Puts the store from which a key's picture is fetched into 8 lent bytes.
+#[unsafe(no_mangle)]
+pub extern "C" fn cot_store(ring: &[u8], position: u64, store: &mut [u8]) -> u64
+    ensures { outcome result store.new ≡ exported_store ring.now position store.old }
+{
+    completion_number(store_of(ring, position, store))
 }

@@ -1,6 +1,6 @@
 // Runs what a Rattle caller can call and nothing else here runs, and prints what each call gives: fresh on memory that is not zero,
 // show, the levelled sum, the calls on a gauge that the caller holds, looks and withdrawals among them, a late fill, a serial that is
-// spent, the journal's reader, and a run whose rows have no room.
+// spent, a key's store by a ring, the journal's reader, and a run whose rows have no room.
 #![tactic(auto)]
 
 use journal::{ENTRY_SIZE, decode, first_two};
@@ -264,6 +264,32 @@ fn sums(rt: &impl Print) -> io::Result<()> {
     sum(rt, five, Gauge { total: 8, ..gauge }, b"")
 }
 
+fn store(rt: &impl Print, ring: &[u8], position: u64) -> io::Result<()> {
+    match ring::store_of(ring, position) {
+        Ok(store) => println!(rt; "store: {store}"),
+        Err(cause) => println!(rt; "store: {cause}"),
+    }
+}
+
+// Three points, in any order: a key on one, between two, and past the last. A point and a byte; none; and two at one position.
+fn stores(rt: &impl Print) -> io::Result<()> {
+    let three = [
+        20u64.to_le_bytes(),
+        2u64.to_le_bytes(),
+        10u64.to_le_bytes(),
+        1u64.to_le_bytes(),
+        4000u64.to_le_bytes(),
+        3u64.to_le_bytes(),
+    ];
+    let three = three.as_flattened();
+    for position in [10, 11, 4001] {
+        store(rt, three, position)?;
+    }
+    store(rt, &[0u8; 17], 10)?;
+    store(rt, b"", 10)?;
+    store(rt, &[0u8; 32], 10)
+}
+
 // The bytes of a journal record without a picture and a ticket.
 fn entry(kind: u8, weight: u16, key: u64) -> [u8; ENTRY_SIZE] {
     let mut bytes = [0; ENTRY_SIZE];
@@ -378,6 +404,7 @@ fn main(rt: HostRuntime) -> io::Result<()> {
     withdrawn(&rt, &mut hub)?;
     spent(&rt, &mut hub)?;
     sums(&rt)?;
+    stores(&rt)?;
     entries(&rt)?;
     runs(&rt)
 }

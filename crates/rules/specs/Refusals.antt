@@ -1,7 +1,7 @@
 -- The paper's number for each cause of refusal.
 use Rattle.std.specs.Prelude.{ℕ}
 use Rattle.rules.specs.declared.Refusal.{Refusal}
-use Rattle.rules.specs.declared.Refusal.TheVariants.{WrongSizes, WrongWeight, NotInOrder, WrongPicture, NoLine, AlreadyFilled, UnknownForm, ShortEnd, StaleTicket, SerialSpent}
+use Rattle.rules.specs.declared.Refusal.TheVariants.{WrongSizes, WrongWeight, NotInOrder, WrongPicture, NoLine, AlreadyFilled, UnknownForm, ShortEnd, StaleTicket, SerialSpent, DoubledPosition, WrongRing}
 
 unfoldable pub number : Refusal → ℕ
 -- | 1: table not whole records, K outside 1 to 1,024, lines not whole, C not under K, gauge bytes not [24]
@@ -24,3 +24,7 @@ number ShortEnd = 8
 number StaleTicket = 9
 -- | 10: a read over 0, update or fill when the serial is 9,223,372,036,854,775,808 or more (and a withdrawal)
 number SerialSpent = 10
+-- | 11, two points at one position (document 02)
+number DoubledPosition = 11
+-- | 12, a ring of no point, over 1,024 or not whole points (document 02)
+number WrongRing = 12

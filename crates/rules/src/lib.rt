@@ -34,6 +34,8 @@ pub enum Refusal {
     ShortEnd = 8,
     StaleTicket = 9,
     SerialSpent = 10,
+    DoubledPosition = 11,
+    WrongRing = 12,
 }
 
 impl From<Refusal> for u64 {
