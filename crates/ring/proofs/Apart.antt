@@ -1,9 +1,12 @@
--- Numbers that are put in order rise at each place exactly where no two are equal. Assumes nothing.
+-- When two of some numbers are equal, by place. And numbers that are put in order rise at each place exactly where no two are. Assumes
+-- nothing.
 use Prim.Native.Nat.{ℕ, zero, suc, ◌<◌}
 use mathlib.Core.Path.{◌≡◌, refl, sym}
 use mathlib.Core.Bool.{Bool, true, false, not}
 use mathlib.Core.List.{List}
+use mathlib.Core.Logic.{◌≢◌}
 use native.Mathlib.Omega.{arith}
+use borrow.Author.Tests.{eqb-false, ne_eqb}
 use lib.ListN.{length, get_or}
 use lib.Dec.{eqb, ltb}
 use Rattle.std.specs.List.{IsAllAdjacentAnswer, IsDistinct}
@@ -16,6 +19,15 @@ use Rattle.std.proofs.lemmas.Map.Keys.{IsDistinct-from_apart, apart_from_distinc
 use Rattle.rules.specs.Pass.{pass, any_of}
 use Rattle.rules.proofs.Searches.{any_none, none_any, pass_same}
 use Rattle.ring.specs.Ring.{repeats}
+
+module _ (f : ℕ → ℕ) (n : ℕ) where
+  pub repeats_none : repeats f n ≡ false → (i j : ℕ) → i < j → j < n → f i ≢ f j
+  unfolding repeats
+  repeats_none none i j before inside = eqb-false _ _ (none_any _ _ j (none_any _ _ n none j inside) i before)
+
+  pub none_repeats : ((i j : ℕ) → i < j → j < n → f i ≢ f j) → repeats f n ≡ false
+  unfolding repeats
+  none_repeats apart = any_none _ _ n (λ j inside. any_none _ _ j (λ i before. ne_eqb _ _ (apart i j before inside)))
 
 -- the numbers below n alone decide
 pub repeats_same : (f g : ℕ → ℕ) (n : ℕ) → ((i : ℕ) → i < n → f i ≡ g i) → repeats f n ≡ repeats g n
@@ -33,17 +45,16 @@ module _ (xs : List ℕ) where
   at i = get_or xs i 0
 
   distinct : repeats at (length xs) ≡ false → IsDistinct eqb xs
-  unfolding repeats
   distinct none =
       IsDistinct-from_apart eqb xs
       (λ i j d before inside.
-      let apart : eqb (at i) (at j) ≡ false = none_any _ _ j (none_any _ _ (length xs) none j inside) i before in
-      rw (get_or_default_zero xs i d (omega arith), get_or_default_zero xs j d inside) apart)
+      rw (get_or_default_zero xs i d (omega arith), get_or_default_zero xs j d inside)
+      (ne_eqb _ _ (repeats_none at (length xs) none i j before inside)))
 
   apart : IsDistinct eqb xs → repeats at (length xs) ≡ false
-  unfolding repeats
   apart h =
-      any_none _ _ (length xs) (λ j inside. any_none _ _ j (λ i before. apart_from_distinct eqb xs i j 0 h before inside))
+      none_repeats at (length xs)
+      (λ i j before inside. eqb-false (at i) (at j) (apart_from_distinct eqb xs i j 0 h before inside))
 
   module _ (ys : List ℕ) (moved : IsPermutation xs ys) (sorted : IsSorted nat_cmp ys) where
     rises : repeats at (length xs) ≡ false → IsStrictlyIncreasing ys

@@ -6,16 +6,15 @@ use mathlib.Core.Bool.{Bool, true, false}
 use mathlib.Core.List.{List}
 use mathlib.Core.Logic.{◌≢◌, ◌⊎◌, inl, inr, ⊎_elim}
 use native.Mathlib.Omega.{arith}
-use borrow.Author.Tests.{ne_eqb}
 use lib.ListN.{length}
 use Rattle.std.specs.Prelude.{Ok, Err}
 use Rattle.rules.specs.Answers.{Completion}
 use Rattle.rules.specs.Bytes.{IsBytes}
 use Rattle.rules.specs.Calls.{unless}
-use Rattle.rules.proofs.Searches.{any_none}
 use Rattle.ring.specs.declared.Point.{Point}
-use Rattle.ring.specs.Ring.{point_count, chosen, ring_good, position_at, repeats, doubled, ring_verdict, store_outcome}
+use Rattle.ring.specs.Ring.{point_count, chosen, ring_good, position_at, doubled, ring_verdict, store_outcome}
 use Rattle.ring.specs.Moves.{OnRing, Adds, PlacedIn}
+use Rattle.ring.proofs.Apart.{none_repeats}
 use Rattle.ring.proofs.Nearest.{one_place, chosen_least, chosen_nearest, chosen_is}
 
 -- | Its store is that of the point
@@ -56,14 +55,13 @@ module _ (less more : List ℕ) (key : ℕ) (less_bytes : IsBytes less) (more_by
 
 -- ---- another order
 doubled_there : (ring other : List ℕ) → PlacedIn ring other → doubled other ≡ false → doubled ring ≡ false
-unfolding doubled repeats position_at
+unfolding doubled position_at
 doubled_there ring other there apart =
-    any_none _ _ (point_count ring)
-    (λ j inside. any_none _ _ j
-    (λ i before. ne_eqb _ _
-    (λ same. there.own i j before inside
+    none_repeats (position_at ring) (point_count ring)
+    (λ i j before inside same.
+    there.own i j before inside
     (one_place other apart (there.place i) (there.place j) (there.inside i (omega arith)) (there.inside j inside)
-    (ap (λ (p : Point). p.position) (there.same i (omega arith)) ∙ same ∙ sym (ap (λ (p : Point). p.position) (there.same j inside)))))))
+    (ap (λ (p : Point). p.position) (there.same i (omega arith)) ∙ same ∙ sym (ap (λ (p : Point). p.position) (there.same j inside)))))
 
 on_there : (ring other : List ℕ) → PlacedIn ring other → (q : Point) → OnRing ring q → OnRing other q
 on_there ring other there q on = (there.place on.0, there.inside on.0 on.1, there.same on.0 on.1 ∙ on.2)

@@ -7,24 +7,25 @@ use mathlib.Core.List.{List}
 use mathlib.Core.Logic.{◌≢◌}
 use native.Mathlib.Decide.{ℕ_discrete}
 use native.Mathlib.Omega.{arith}
-use borrow.Author.Tests.{leb-true, ltb-true, ltb-false, eqb-false}
+use borrow.Author.Tests.{leb-true, ltb-true, ltb-false}
 use lib.Dec.{ltb}
 use Rattle.std.specs.Prelude.{Ok, if◌then◌else◌}
 use Rattle.rules.specs.Bytes.{IsBytes}
 use Rattle.rules.specs.Pass.{pass}
 use Rattle.rules.proofs.Words.{get64_below}
-use Rattle.rules.proofs.Searches.{both, none_any}
+use Rattle.rules.proofs.Searches.{both}
 use Rattle.rules.specs.Calls.{verdict}
 use Rattle.ring.specs.declared.Point.{Point}
-use Rattle.ring.specs.Ring.{point_size, point_at, point_count, distance, nearer, nearest, chosen, ring_good, position_at, repeats, doubled, ring_verdict}
+use Rattle.ring.specs.Ring.{point_size, point_at, point_count, distance, nearer, nearest, chosen, ring_good, position_at, doubled, ring_verdict}
 use Rattle.ring.specs.Moves.{OnRing, IsNearest}
+use Rattle.ring.proofs.Apart.{repeats_none}
 
 -- ---- what an accepted ring has shown
 module _ (ring : List ℕ) where
   module _ (apart : doubled ring ≡ false) where
     positions_apart : (i j : ℕ) → i < j → j < point_count ring → position_at ring i ≢ position_at ring j
-    unfolding doubled repeats
-    positions_apart i j before inside = eqb-false _ _ (none_any _ _ j (none_any _ _ (point_count ring) apart j inside) i before)
+    unfolding doubled
+    positions_apart = repeats_none (position_at ring) (point_count ring) apart
 
     pub one_place : (i j : ℕ) → i < point_count ring → j < point_count ring → position_at ring i ≡ position_at ring j → i ≡ j
     one_place i j first second same =

@@ -8,43 +8,34 @@ use mathlib.Core.Logic.{◌≢◌, ◌⊎◌, inl, inr}
 use native.Mathlib.Nat.{add-zero, add_assoc}
 use native.Mathlib.Decide.{ℕ_discrete}
 use native.Mathlib.Omega.{arith}
-use lib.ListN.{length, get_or, take, drop, length-append, length-drop, take-append-drop}
-use lib.Seq.{get_or-drop, get_or-take, length-take-le, take_at, drop_at}
+use lib.ListN.{length, take, drop, length-append, length-drop, take-append-drop}
+use lib.Seq.{length-take-le, take_at, drop_at}
 use lib.Dec.{lit<, ltb}
 use borrow.Author.Tests.{ltb-true, ltb-false}
-use Rattle.std.proofs.lemmas.List.{get_or_append_left, get_or-append_right}
-use Rattle.rules.specs.Bytes.{get64}
+use Rattle.rules.proofs.Places.{get_front, get_part}
 use Rattle.ring.specs.declared.Point.{Point}
 use Rattle.ring.specs.Ring.{point_size, store_place, point_at, point_count}
 use Rattle.ring.specs.Moves.{OnRing, Adds, put_in, take_out}
 
--- equal bytes are an equal number, and an equal point
-number_by : (a b : List ℕ) (i j : ℕ) → ((k : ℕ) → k < 8 → get_or a (i + k) 0 ≡ get_or b (j + k) 0) → get64 a i ≡ get64 b j
-unfolding get64
-number_by a b i j same =
-    let first : get_or a i 0 ≡ get_or b j 0 = rw (add-zero i, add-zero j) at (same 0 (lit< tt)) in
+-- the points of a list's front and of the rest
+point_front : (t : List ℕ) (m i : ℕ) → i < m → point_at (take (point_size * m) t) i ≡ point_at t i
+unfolding point_at
+point_front t m i below =
     rw (
-      first,
-      same 1 (lit< tt),
-      same 2 (lit< tt),
-      same 3 (lit< tt),
-      same 4 (lit< tt),
-      same 5 (lit< tt),
-      same 6 (lit< tt),
-      same 7 (lit< tt),
+      get_front t (point_size * m) (point_size * i) (omega arith),
+      get_front t (point_size * m) (point_size * i + store_place) (omega arith),
     )
     refl
 
-point_by : (a b : List ℕ) (i j : ℕ) →
-    ((k : ℕ) → k < point_size → get_or a (point_size * i + k) 0 ≡ get_or b (point_size * j + k) 0) → point_at a i ≡ point_at b j
+point_part : (t : List ℕ) (m i : ℕ) → point_at (drop (point_size * m) t) i ≡ point_at t (m + i)
 unfolding point_at
-point_by a b i j same =
-    let position : get64 a (point_size * i) ≡ get64 b (point_size * j) =
-    number_by a b (point_size * i) (point_size * j) (λ k small. same k (omega arith)) in
-    let store : get64 a (point_size * i + store_place) ≡ get64 b (point_size * j + store_place) =
-    number_by a b (point_size * i + store_place) (point_size * j + store_place)
-    (λ k small. rw (add_assoc (point_size * i) store_place k, add_assoc (point_size * j) store_place k) (same (store_place + k) (omega arith))) in
-    rw (position, store) refl
+point_part t m i =
+    let e : point_size * (m + i) ≡ point_size * m + point_size * i = omega arith in
+    rw e (simp (get_part, add_assoc))
+
+front_long : (ring : List ℕ) (i : ℕ) → point_size * point_count ring ≡ length ring → i ≤ point_count ring →
+    length (take (point_size * i) ring) ≡ point_size * i
+front_long ring i whole inside = length-take-le (point_size * i) ring (omega (arith, whole))
 
 module _ (ring bytes : List ℕ) (i : ℕ) (whole : point_size * point_count ring ≡ length ring) (inside : i ≤ point_count ring)
     (size : length bytes ≡ point_size) where
@@ -52,34 +43,40 @@ module _ (ring bytes : List ℕ) (i : ℕ) (whole : point_size * point_count rin
   more = put_in ring i bytes
 
   front : length (take (point_size * i) ring) ≡ point_size * i
-  front = length-take-le (point_size * i) ring (omega (arith, whole))
+  front = front_long ring i whole inside
+
+  rest : drop (point_size * i) more ≡ bytes ++ drop (point_size * i) ring
+  unfolding more put_in
+  rest = drop_at (take (point_size * i) ring) (bytes ++ drop (point_size * i) ring) (point_size * i) front
 
   before : (j : ℕ) → j < i → point_at more j ≡ point_at ring j
   unfolding more put_in
   before j l =
-      point_by more ring j j
-      (λ k small.
-      get_or_append_left (take (point_size * i) ring) _ 0 (point_size * j + k) (omega (arith, front))
-      ∙ get_or-take (point_size * i) ring (point_size * j + k) 0 (omega arith))
+      sym (point_front more i j l)
+      ∙ ap (λ (t : List ℕ). point_at t j) (take_at (take (point_size * i) ring) (bytes ++ drop (point_size * i) ring) (point_size * i) front)
+      ∙ point_front ring i j l
+
+  in_rest : (k : ℕ) → point_at more (i + k) ≡ point_at (bytes ++ drop (point_size * i) ring) k
+  in_rest k = sym (point_part more i k) ∙ ap (λ (t : List ℕ). point_at t k) rest
 
   here : point_at more i ≡ point_at bytes 0
-  unfolding more put_in
   here =
-      point_by more bytes i 0
-      (λ k small.
-      get_or-append_right (take (point_size * i) ring) _ (point_size * i) (point_size * i + k) 0 front (omega arith)
-      ∙ ap (λ (x : ℕ). get_or (bytes ++ drop (point_size * i) ring) x 0) (omega arith)
-      ∙ get_or_append_left bytes _ 0 (point_size * 0 + k) (omega (arith, size)))
+      ap (point_at more) (sym (add-zero i))
+      ∙ in_rest 0
+      ∙ sym (point_front (bytes ++ drop (point_size * i) ring) 1 0 (lit< tt))
+      ∙ ap (λ (t : List ℕ). point_at t 0) (take_at bytes (drop (point_size * i) ring) point_size size)
 
   after : (j : ℕ) → i ≤ j → point_at more (suc j) ≡ point_at ring j
-  unfolding more put_in
   after j l =
-      point_by more ring (suc j) j
-      (λ k small.
-      get_or-append_right (take (point_size * i) ring) _ (point_size * i) (point_size * suc j + k) 0 front (omega arith)
-      ∙ get_or-append_right bytes _ point_size (point_size * suc j + k - point_size * i) 0 size (omega arith)
-      ∙ get_or-drop (point_size * i) ring _ 0
-      ∙ ap (λ (x : ℕ). get_or ring x 0) (omega arith))
+      let k = j - i in
+      let next : suc j ≡ i + (1 + k) = omega arith in
+      let past : i + k ≡ j = omega arith in
+      ap (point_at more) next
+      ∙ in_rest (1 + k)
+      ∙ sym (point_part (bytes ++ drop (point_size * i) ring) 1 k)
+      ∙ ap (λ (t : List ℕ). point_at t k) (drop_at bytes (drop (point_size * i) ring) point_size size)
+      ∙ point_part ring i k
+      ∙ ap (point_at ring) past
 
   count : point_count more ≡ suc (point_count ring)
   unfolding more put_in point_count
@@ -120,7 +117,7 @@ module _ (ring : List ℕ) (i : ℕ) (whole : point_size * point_count ring ≡ 
   bytes_out = take point_size (drop (point_size * i) ring)
 
   front_out : length (take (point_size * i) ring) ≡ point_size * i
-  front_out = length-take-le (point_size * i) ring (omega (arith, whole))
+  front_out = front_long ring i whole (omega (arith, inside))
 
   put_back : put_in out i bytes_out ≡ ring
   unfolding out take_out bytes_out put_in

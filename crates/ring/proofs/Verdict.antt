@@ -6,13 +6,14 @@ use mathlib.Core.Bool.{Bool, true, false}
 use mathlib.Core.List.{List}
 use mathlib.Core.Logic.{◌≢◌}
 use native.Mathlib.Omega.{arith}
-use borrow.Author.Tests.{eq-eqb, ne_eqb, le-leb, eqb-true, leb-true}
+use borrow.Author.Tests.{eq-eqb, le-leb, eqb-true, leb-true}
 use lib.ListN.{length}
 use Rattle.std.specs.Prelude.{Ok, Err}
 use Rattle.rules.specs.declared.Refusal.TheVariants.{DoubledPosition, WrongRing}
 use Rattle.rules.specs.Calls.{verdict}
-use Rattle.rules.proofs.Searches.{both, any_none}
-use Rattle.ring.specs.Ring.{point_at, point_count, ring_good, position_at, repeats, doubled, ring_verdict}
+use Rattle.rules.proofs.Searches.{both}
+use Rattle.ring.specs.Ring.{point_at, point_count, ring_good, position_at, doubled, ring_verdict}
+use Rattle.ring.proofs.Apart.{none_repeats}
 use Rattle.ring.proofs.Nearest.{one_place}
 
 -- | 12, a ring of no point, over 1,024 or not whole points
@@ -52,9 +53,8 @@ module _ (ring : List ℕ) (n : ℕ) (some : 1 ≤ n) (few : n ≤ 1024) (whole 
   -- every other ring is accepted
   pub accepted_apart : ((i j : ℕ) → i < j → j < n → (point_at ring i).position ≢ (point_at ring j).position) →
       ring_verdict ring ≡ Ok tt
-  unfolding ring_verdict verdict doubled repeats position_at
+  unfolding ring_verdict verdict doubled position_at
   accepted_apart apart =
       let none : doubled ring ≡ false =
-      any_none _ _ (point_count ring)
-      (λ j inside. any_none _ _ j (λ i before. ne_eqb _ _ (apart i j before (omega (arith, so_many))))) in
+      none_repeats (position_at ring) (point_count ring) (λ i j before inside. apart i j before (omega (arith, so_many))) in
       rw (good, none) refl
