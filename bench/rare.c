@@ -1,6 +1,7 @@
 /* Times the calls that a host makes rarely beside the plain C version: fresh,
  * aging, the levelled sum and a look at an untracked key, from a full table of
- * K records with K / 4 lines, one call after another on the same memory.
+ * K records with K / 4 lines, one call after another on the same memory. And
+ * cot.h's cot_is_off_lines, of an untracked key, beside a loop of 64-bit loads.
  * Prints a Markdown table of nanoseconds a call; exit 1 where the two differ. */
 
 #include "clock.h"
@@ -35,6 +36,23 @@ static uint64_t library_sum(struct memory *m) { return cot_levelled_sum(WHOLE(m)
 static uint64_t plain_sum_of(struct memory *m) { return plain_levelled_sum(WHOLE(m), m->sum, COT_SUM_BYTES); }
 static uint64_t library_look(struct memory *m) { return cot_read(WHOLE(m), UINT64_MAX, 0, TICKET(m)); }
 static uint64_t plain_look_of(struct memory *m) { return plain_read(WHOLE(m), UINT64_MAX, 0, TICKET(m)); }
+
+static uint64_t header_off_lines(struct memory *m)
+{
+    return (uint64_t)cot_is_off_lines(m->table, m->table_len, UINT64_MAX);
+}
+
+static uint64_t plain_off_lines(struct memory *m)
+{
+    for (size_t at = 0; at < m->table_len; at += COT_RECORD_BYTES) {
+        uint64_t key, state;
+        memcpy(&key, m->table + at, sizeof key);
+        memcpy(&state, m->table + at + 24, sizeof state);
+        if (key == UINT64_MAX && state != 0)
+            return state == 1;
+    }
+    return 0;
+}
 
 static void fill(struct memory *m, size_t k)
 {
@@ -81,7 +99,8 @@ int main(void)
         if (!compare("fresh", library_fresh, plain_fresh_of, sizes[i]) ||
             !compare("age", library_age, plain_age_of, sizes[i]) ||
             !compare("levelled sum", library_sum, plain_sum_of, sizes[i]) ||
-            !compare("look", library_look, plain_look_of, sizes[i]))
+            !compare("look", library_look, plain_look_of, sizes[i]) ||
+            !compare("off lines", header_off_lines, plain_off_lines, sizes[i]))
             return 1;
     return 0;
 }

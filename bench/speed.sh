@@ -1,6 +1,6 @@
 #!/usr/bin/env bash
 # Nanoseconds and instructions a call of the library beside the plain C version,
-# rare calls and stores of a ring too.
+# rare calls, stores of a ring and the ends of epochs too.
 #   bash bench/speed.sh [--calls N]
 set -euo pipefail
 cd "$(dirname "$0")/.."
@@ -19,6 +19,7 @@ gcc "${flags[@]}" -c bench/plain.c -o "$out/plain.o"
 gcc "${flags[@]}" "$padding" -c bench/plain.c -o "$out/padded.o"
 gcc "${flags[@]}" -Iinclude -c bench/rare.c -o "$out/rare.o"
 gcc "${flags[@]}" -Iinclude -c bench/store.c -o "$out/store.o"
+gcc "${flags[@]}" -Iinclude -c bench/scale.c -o "$out/scale.o"
 gcc "${flags[@]}" "$padding" -o "$out/width" bench/width.c
 
 # The place of a loop in memory changes its speed. The programs are linked at
@@ -31,6 +32,7 @@ for place in 16 32 48 64; do
     done
     gcc -o "$out/rare-$place" "$out/place.o" "$out/rare.o" "$out/plain.o" "$library" -lm
     gcc -o "$out/store-$place" "$out/place.o" "$out/store.o" "$library" -lm
+    gcc -o "$out/scale-$place" "$out/place.o" "$out/scale.o" "$library" -lm
 done
 
 echo "machine: $(awk -F": " "/^model name/ { print \$2; exit }" /proc/cpuinfo), $(nproc) processors; $(gcc --version | head -n 1)"
@@ -95,6 +97,22 @@ awk -F'|' '
                    library[row] / pairs[row], qsort[row], library[row] / qsort[row]
         }
     }' "$out"/store-{16,32,48,64}.txt
+
+echo
+echo "Nanoseconds a call at the end of an epoch, best of all runs:"
+echo
+for place in 16 32 48 64; do
+    "$out/scale-$place" > "$out/scale-$place.txt"
+done
+awk -F'|' '
+    FNR < 3 { if (NR == FNR) print; next }
+    !($2 in library) { rows[++n] = $2; library[$2] = $3; plain[$2] = $4 }
+    $3 + 0 < library[$2] + 0 { library[$2] = $3 }
+    $4 + 0 < plain[$2] + 0 { plain[$2] = $4 }
+    END {
+        for (i = 1; i <= n; i++)
+            printf "|%s|%s|%s| %5.2f |\n", rows[i], library[rows[i]], plain[rows[i]], library[rows[i]] / plain[rows[i]]
+    }' "$out"/scale-{16,32,48,64}.txt
 
 echo
 echo "Nanoseconds an order test in plain C, by the width of a record:"

@@ -11,17 +11,18 @@
  *   sum      COT_SUM_BYTES, a 64-bit number as in the gauge, written by cot_levelled_sum
  *   ring     1 to COT_MOST_POINTS points of COT_POINT_BYTES, see cot_store
  *   store    COT_STORE_BYTES, a 64-bit number as in the gauge, written by cot_store
- * All that the cache knows is in the first three. The ring is the host's own: cot_store reads it,
- * no other call does, and nothing of it is kept.
+ *   lookups  1 to COT_MOST_STORES 64-bit numbers as in the gauge, see cot_scale
+ *   out      COT_SCALE_BYTES, four 64-bit numbers as in the gauge, written by cot_scale
+ * All that the cache knows is in the first three. The ring and the lookups are the host's own:
+ * cot_store reads the one and cot_scale the other, no other call does, and nothing of them is kept.
  *
  * A length is in bytes. Each pointer must be good for its length. A length of 0 may come with any
  * pointer, NULL too. The buffers of one call must not overlap. Any alignment will do.
  *
  * To start with a fresh cache, call cot_fresh, or set every byte of the table and of the gauge to
  * zero, which is the same. The lines may hold any bytes. From then on lend the same three buffers,
- * whole, to each call but cot_store, which takes none of them, and let only the library write to
- * them. The host may read them at any time
- * between calls.
+ * whole, to each call but cot_store and cot_scale, which take none of them, and let only the
+ * library write to them. The host may read them at any time between calls.
  *
  * Use the line of a hit before the next call: any later read of a weight over 0, update, withdrawal
  * or fill may give the line to another key or put another picture into it.
@@ -40,8 +41,9 @@
  *
  * Calls on the same buffers must not run at the same time, looks (see cot_read) included: the
  * library takes no lock. Calls on different buffers may, and so may calls of cot_store on one ring,
- * each with store bytes of its own, while nobody writes to the ring. A call takes less than 2 KiB
- * of stack, cot_store less than 12 KiB, and returns.
+ * each with store bytes of its own, while nobody writes to the ring, and calls of cot_scale on the
+ * same lookups, each with out bytes of its own. A call takes less than 2 KiB of stack, cot_store
+ * less than 12 KiB, and returns.
  *
  * docs/FORMATS.md has the fields of a record and when a table is in order; a host needs neither.
  *
@@ -52,6 +54,7 @@
 
 #include <stddef.h>
 #include <stdint.h>
+#include <string.h>
 
 #ifdef __cplusplus
 extern "C" {
@@ -65,12 +68,15 @@ extern "C" {
 #define COT_SUM_BYTES 8
 #define COT_POINT_BYTES 16
 #define COT_STORE_BYTES 8
+#define COT_SCALE_BYTES 32
 
 /* Limits. */
 #define COT_MOST_RECORDS 1024
 #define COT_MOST_WEIGHT 65535
 #define COT_MOST_TOTAL 4294967295 /* L: a read that would pass it ages first */
 #define COT_MOST_POINTS 1024
+#define COT_MOST_STORES 64    /* of cot_scale; a ring may have more */
+#define COT_MOST_COUNT 1048576 /* of lookups, of hits, and in each part of a fraction */
 
 /* With a serial of this or more, reads of a weight over 0, updates, fills and withdrawals are
  * refused, and a fresh start is what is left. No host comes to it: with a line taken a billion
@@ -78,11 +84,13 @@ extern "C" {
 #define COT_MOST_SERIAL UINT64_C(9223372036854775808)
 
 /* Returned by a refused call: 1 to 99, see cot_is_refused. The tests come in this order: sizes;
- * weight or picture; order; serial; no line; filled; ticket. Of cot_store: sizes; ring; doubled.
+ * weight or picture; order; serial; no line; filled; ticket. Of cot_store: sizes; ring; doubled. Of
+ * cot_scale: sizes; epoch.
  * Form and short are the replay program's: no call here returns them. */
 #define COT_REFUSED_SIZES 1   /* table not whole records, K outside 1 to 1,024, lines not whole,
                                  C not under K, gauge bytes not 24, or ticket, sum or store bytes
-                                 not 8 */
+                                 not 8; scale: its out bytes not 32, C 0, K not over C, or K over
+                                 1,024 */
 #define COT_REFUSED_WEIGHT 2  /* read or update: weight over 65,535; update: weight 0 */
 #define COT_REFUSED_ORDER 3   /* the table is not in order */
 #define COT_REFUSED_PICTURE 4 /* fill: the picture has not 64 bytes */
@@ -95,6 +103,10 @@ extern "C" {
                                  reached */
 #define COT_REFUSED_DOUBLED 11 /* store: two points of the ring at one position */
 #define COT_REFUSED_RING 12    /* store: a ring of no point, over 1,024, or not whole points */
+#define COT_REFUSED_EPOCH 13   /* scale: lookups not whole numbers, or not of 1 to 64 stores;
+                                  lookups to a store, hits or a part of a fraction over
+                                  COT_MOST_COUNT; a denominator of 0; an imbalance below 1; a
+                                  tolerance over 999 */
 
 /* Returned by an accepted call. */
 #define COT_DONE 0        /* fresh, levelled sum, store */
@@ -104,6 +116,10 @@ extern "C" {
 #define COT_STORED 103    /* fill: the picture is in the key's line */
 #define COT_PASSED 104    /* read: the key has no line */
 #define COT_WITHDRAWN 105 /* withdraw: the key is not tracked any more */
+#define COT_GROW 106      /* scale: twice the lines and records, and a new target */
+#define COT_SHRINK 107    /* scale: half the lines and records */
+#define COT_AGE 108       /* scale: the heats should be halved, see cot_age */
+#define COT_STAY 109      /* scale: nothing is to be done */
 #define COT_HIT 2000      /* read: COT_HIT + n, the key's picture is in line n */
 #define COT_WANTED 4000   /* read: COT_WANTED + n, the key has line n, which is to be filled; tells a
                              ticket for it */
@@ -181,6 +197,41 @@ uint64_t cot_levelled_sum(const uint8_t *table, size_t table_len, const uint8_t 
 uint64_t cot_store(const uint8_t *ring, size_t ring_len, uint64_t position, uint8_t *store,
                    size_t store_len);
 
+/* Tells at the end of an epoch, a number of reads, whether the cache should grow, shrink, age or
+ * stay as it is: Algorithm 3 of the CoT paper. Call it after each epoch of at least as many reads
+ * as the table has records. What it tells is to be done by the host; see below.
+ *   lookups    how many lookups went to each store in the epoch, a number of 8 bytes for each of 1
+ *              to COT_MOST_STORES stores; see cot_put_number
+ *   on, off    the hits of the epoch, on lines and off them: reads of a weight over 0 that were
+ *              answered hit; and such reads of keys that were tracked without a line when they
+ *              came, see cot_is_off_lines. A read of a key whose own line is empty is neither
+ *   lines, records     C, at least 1, and K, over C
+ *   imbalance_over / _under   the imbalance that is aimed at, 11 / 10 say, at least 1: the most
+ *              lookups to one store may be so many times the fewest
+ *   target_over / _under      the hits per line that are aimed at: 0 / 1 at first, and from a grow
+ *              on what it told, which are those of the cache before it grew. A host may aim at
+ *              others: docs/BENCH.md has such a run
+ *   tolerance  so many thousandths of the target may be missed, 0 to 999
+ * It returns
+ *   COT_GROW   if the imbalance is over the one aimed at, and a line had, on the average, as many
+ *              hits as a record without one, or more. Out gets the new C and K, twice each, and the
+ *              new target, its over and its under: the hits per line of this epoch.
+ *   COT_SHRINK else, if the hits per line, and those per record without one, are both below the
+ *              target less what is tolerated. The first 16 bytes of out get the new C and K, half
+ *              each, C rounded down and K up.
+ *   COT_AGE    else, if the hits per line are below that, and those per record without one above.
+ *   COT_STAY   else. And in place of a grow to over COT_MOST_RECORDS, or of a shrink with one line.
+ * Where it writes nothing, and where it is refused, the bytes stay. Stores without lookups beside
+ * one that has some are over any imbalance; if none has any, that is within it. An epoch of at most
+ * COT_MOST_COUNT reads keeps all counts in bounds.
+ * To grow or shrink, start a fresh cache of the new sizes, and leave some epochs out until it is
+ * warm; for an aging call cot_age. All answers but a grow keep the target.
+ * Refused: sizes, epoch. */
+uint64_t cot_scale(const uint8_t *lookups, size_t lookups_len, uint64_t on, uint64_t off,
+                   uint64_t lines, uint64_t records, uint64_t imbalance_over,
+                   uint64_t imbalance_under, uint64_t target_over, uint64_t target_under,
+                   uint64_t tolerance, uint8_t *out, size_t out_len);
+
 /* 1 if the returned number is that of a refused call, else 0. */
 static inline int cot_is_refused(uint64_t number)
 {
@@ -206,7 +257,7 @@ static inline size_t cot_line(uint64_t number)
 }
 
 /* The number in 8 bytes, least significant byte first: a ticket, a sum or a store, or one of the
- * gauge's. */
+ * gauge's or of those that cot_scale gives. */
 static inline uint64_t cot_number(const uint8_t bytes[8])
 {
     uint64_t number = 0;
@@ -221,14 +272,31 @@ static inline uint64_t cot_ticket(const uint8_t ticket[COT_TICKET_BYTES])
     return cot_number(ticket);
 }
 
+/* Writes a number into 8 bytes, least significant byte first: one of the lookups of cot_scale. */
+static inline void cot_put_number(uint8_t bytes[8], uint64_t number)
+{
+    for (int i = 0; i < 8; i++)
+        bytes[i] = (uint8_t)(number >> 8 * i);
+}
+
 /* Writes the point at a place, counted from 0, of a ring that has room for it. */
 static inline void cot_put_point(uint8_t *ring, size_t place, uint64_t position, uint64_t store)
 {
     uint8_t *point = ring + COT_POINT_BYTES * place;
-    for (int i = 0; i < 8; i++) {
-        point[i] = (uint8_t)(position >> 8 * i);
-        point[8 + i] = (uint8_t)(store >> 8 * i);
-    }
+    cot_put_number(point, position);
+    cot_put_number(point + 8, store);
+}
+
+/* 1 if the key is tracked in the table without a line, else 0. Asked before a read of a weight over
+ * 0, it tells whether that is a hit off the lines, see cot_scale. It goes over the table. */
+static inline int cot_is_off_lines(const uint8_t *table, size_t table_len, uint64_t key)
+{
+    uint8_t own[8];
+    cot_put_number(own, key);
+    for (size_t at = 0; at + COT_RECORD_BYTES <= table_len; at += COT_RECORD_BYTES)
+        if (memcmp(table + at, own, 8) == 0 && cot_number(table + at + 24) != 0)
+            return cot_number(table + at + 24) == 1;
+    return 0;
 }
 
 #ifdef __cplusplus

@@ -1,6 +1,7 @@
 #!/bin/sh
-# The C host: the header as C and as C++, examples/host.c and examples/stores.c, and document 01's
-# sample calls with the edges, looks, tickets, withdrawals, equals, stores, fresh and levelled sums.
+# The C host: the header as C and as C++, examples/host.c, examples/stores.c and examples/epochs.c,
+# and document 01's sample calls with the edges, looks, tickets, withdrawals, equals, stores, epochs,
+# fresh and levelled sums.
 set -eu
 cd "$(dirname "$0")/.."
 
@@ -29,6 +30,7 @@ run() {
 
 run host examples/host.c
 run stores examples/stores.c
+run epochs examples/epochs.c
 run sample tests/c/sample.c
-echo "10_c_host: header good as C and C++; host.c, stores.c and" \
+echo "10_c_host: header good as C and C++; host.c, stores.c, epochs.c and" \
     "$(wc -l <tests/c/sample.expected) sample lines as expected"

@@ -58,7 +58,21 @@ fault ring-largest 'random ring [0-9]*: difference: store byte [0-7] is '
 # The other one of two refusals, and a ring that the library refuses and the model does not.
 fault ring-doubled-first 'random ring [0-9]*: difference: returned 12, the model 11$'
 fault ring-neighbours-only 'random ring [0-9]*: difference: returned 11, the model 0; '
+# Another answer.
+fault scale-strict-average 'random epoch [0-9]*: difference: returned 106, the model 10[789]; '
+# Other numbers in the same answer.
+fault scale-new-lines-in-target 'random epoch [0-9]*: difference: out byte 2[4-9] (target under) '
+fault scale-target-reduced 'random epoch [0-9]*: difference: out byte [0-9]* (target [a-z]*) is '
+fault scale-halved-down 'random epoch [0-9]*: difference: out byte [0-9]* (K) is '
+# Another answer again.
+fault scale-tolerance-added 'random epoch [0-9]*: difference: returned 10[789], the model 10[789]'
+fault scale-falls-through 'random epoch [0-9]*: difference: returned 109, the model 10[78]'
+fault scale-zero-least-within 'random epoch [0-9]*: difference: returned 10[69], the model 10[789]'
+# The other one of two refusals.
+fault scale-sizes-last 'random epoch [0-9]*: difference: returned 1, the model 13$'
 echo "20_compare: no difference; the deliberate faults admit-equal, fresh-keeps, sum-heat," \
     "look-warms, keeps-ticket, ticket-on-hit, any-ticket, free-takes-line, victim-by-heat," \
     "victim-least-slack, victim-low-half, coldest-by-slack, ring-key-minus-point, ring-no-wrap," \
-    "ring-low-half, ring-largest, ring-doubled-first and ring-neighbours-only are found"
+    "ring-low-half, ring-largest, ring-doubled-first, ring-neighbours-only, scale-strict-average," \
+    "scale-new-lines-in-target, scale-target-reduced, scale-halved-down, scale-tolerance-added," \
+    "scale-falls-through, scale-zero-least-within and scale-sizes-last are found"

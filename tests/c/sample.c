@@ -1,5 +1,5 @@
 /* sample.c: document 01's thirteen sample calls, the edges for K = 3, C = 1, document 02's looks,
- * tickets, withdrawals, equals and stores, fresh, levelled sums and the helpers of cot.h.
+ * tickets, withdrawals, equals, stores and epochs, fresh, levelled sums and the helpers of cot.h.
  *
  * Prints each returned number, with the line of a hit or a wanted and the ticket of a wanted, and
  * the gauge after the call. A refused call must leave all lent memory as it was, and a read that
@@ -830,6 +830,133 @@ static void stores(void)
     call_store("store, the first and the last of 1,024 at one position", 15);
 }
 
+/* What an epoch is: on, off, C, K, the imbalance and the target that are aimed at, the tolerance. */
+enum { ON, OFF, LINES, RECORDS, OVER, UNDER, HITS, PER, TOLERANCE, NUMBERS };
+
+static uint8_t lookups[8 * (COT_MOST_STORES + 1)], out[COT_SCALE_BYTES + 8];
+static size_t lookups_len, out_len;
+static uint64_t epoch[NUMBERS];
+
+/* Prints what is returned, the numbers that come with it, and what has become of the lent bytes. */
+static void call_scale(const char *name)
+{
+    static uint8_t lookups_before[sizeof lookups], out_before[sizeof out];
+
+    memset(out, 0x5a, sizeof out);
+    memcpy(lookups_before, lookups, sizeof lookups);
+    memcpy(out_before, out, sizeof out);
+    uint64_t number = cot_scale(lent(lookups, lookups_len), lookups_len, epoch[ON], epoch[OFF],
+                                epoch[LINES], epoch[RECORDS], epoch[OVER], epoch[UNDER],
+                                epoch[HITS], epoch[PER], epoch[TOLERANCE], lent(out, out_len),
+                                out_len);
+    printf("%s: %" PRIu64, name, number);
+    size_t written = number == COT_GROW ? 32 : number == COT_SHRINK ? 16 : 0;
+    for (size_t at = 0; at < written; at += 8)
+        printf("%s %" PRIu64, at == 0 ? "," : at == 24 ? " /" : "", cot_number(out + at));
+    int kept = memcmp(lookups, lookups_before, sizeof lookups) == 0 &&
+               memcmp(out + written, out_before + written, sizeof out - written) == 0;
+    printf(", %s\n", kept ? "all else as it was" : "MEMORY CHANGED");
+}
+
+/* An epoch of so many hits: 2 lines, 8 records, imbalance 1.1, target 50, a tenth tolerated. */
+static void epoch_of(uint64_t on, uint64_t off)
+{
+    static const uint64_t numbers[NUMBERS] = {0, 0, 2, 8, 11, 10, 50, 1, 100};
+
+    memcpy(epoch, numbers, sizeof epoch);
+    epoch[ON] = on;
+    epoch[OFF] = off;
+    out_len = COT_SCALE_BYTES;
+}
+
+/* As many lookups to one store and to the other as these. */
+static void lookups_of(uint64_t one, uint64_t other)
+{
+    cot_put_number(lookups, one);
+    cot_put_number(lookups + 8, other);
+    lookups_len = 16;
+}
+
+/* One number of an epoch changed, which is put back. */
+static void call_with(const char *name, int which, uint64_t number)
+{
+    uint64_t own = epoch[which];
+
+    epoch[which] = number;
+    call_scale(name);
+    epoch[which] = own;
+}
+
+static void epochs(void)
+{
+    lookups_of(111, 100);
+    epoch_of(100, 300);
+    call_scale("grow, a line has as many hits");
+    call_with("grow, 512 records", RECORDS, 512);
+    epoch_of(100, 301);
+    call_scale("stay, a line has fewer hits");
+    epoch_of(0, 0);
+    call_with("stay, no room for a grow, and no shrink", RECORDS, 513);
+    lookups_of(110, 100);
+    epoch_of(100, 300);
+    call_scale("stay, imbalance as aimed at");
+    epoch_of(89, 269);
+    call_scale("shrink, both below");
+    call_with("stay, one line", LINES, 1);
+    epoch_of(89, 270);
+    call_scale("stay, off the lines exactly as tolerated");
+    epoch_of(89, 271);
+    call_scale("age, more off the lines");
+    epoch_of(90, 271);
+    call_scale("stay, on the lines exactly as tolerated");
+    call_with("stay, a target of 0", HITS, 0);
+    epoch_of(0, 0);
+    lookups_of(0, 1);
+    call_scale("grow, a store without lookups");
+    lookups_of(0, 0);
+    call_scale("shrink, no lookups");
+    call_with("shrink, K halved up", RECORDS, 7);
+    call_with("shrink, C halved down", LINES, 3);
+    lookups_len = 8;
+    call_scale("shrink, one store");
+    lookups_len = 8 * COT_MOST_STORES;
+    call_scale("shrink, 64 stores");
+    lookups_len += 8;
+    call_scale("65 stores");
+    lookups_len = 15;
+    call_scale("a store and 7 bytes");
+    lookups_len = 0;
+    call_scale("no store");
+    call_with("no line before no store", LINES, 0);
+    out_len = 31;
+    call_scale("31 out bytes before no store");
+    lookups_of(0, 0);
+    call_scale("31 out bytes");
+    out_len = 33;
+    call_scale("33 out bytes");
+    out_len = 0;
+    call_scale("no out bytes");
+    out_len = COT_SCALE_BYTES;
+    call_with("no line", LINES, 0);
+    call_with("as many lines as records", LINES, 8);
+    call_with("1,025 records", RECORDS, 1025);
+    call_with("1,048,576 hits on lines", ON, COT_MOST_COUNT);
+    call_with("1,048,577 hits on lines", ON, COT_MOST_COUNT + 1);
+    call_with("1,048,577 hits off lines", OFF, COT_MOST_COUNT + 1);
+    call_with("imbalance over 1,048,577", OVER, COT_MOST_COUNT + 1);
+    call_with("imbalance under 0", UNDER, 0);
+    call_with("imbalance below 1", UNDER, 12);
+    call_with("target over 1,048,577", HITS, COT_MOST_COUNT + 1);
+    call_with("target under 1,048,577", PER, COT_MOST_COUNT + 1);
+    call_with("target under 0", PER, 0);
+    call_with("tolerance 999", TOLERANCE, 999);
+    call_with("tolerance 1,000", TOLERANCE, 1000);
+    lookups_of(COT_MOST_COUNT, COT_MOST_COUNT);
+    call_scale("1,048,576 lookups");
+    lookups_of(0, COT_MOST_COUNT + 1);
+    call_scale("1,048,577 lookups");
+}
+
 /* What the helpers of cot.h say of a number. */
 static void helpers(void)
 {
@@ -856,6 +983,20 @@ static void helpers(void)
         printf(" %02x", ring[i]);
     printf("\nits numbers: %" PRIx64 " %" PRIx64 "\n", cot_number(ring + 16),
            cot_number(ring + 24));
+    fresh();
+    put_record(1, 5, 3, 0, 3);
+    put_record(2, 7, 1, 0, 1);
+    static const uint64_t keys[] = {5, 7, 0, 3};
+    for (size_t i = 0; i < sizeof keys / sizeof keys[0]; i++)
+        printf("class %" PRIu64 ": off the lines %d\n", keys[i],
+               cot_is_off_lines(table, table_len, keys[i]));
+    put_record(1, 7, 3, 0, 2);
+    printf("class 7, first on a line: off the lines %d\n", cot_is_off_lines(table, table_len, 7));
+    put_record(1, 0, 0, 0, 0);
+    printf("class 7, after a free record: off the lines %d\n",
+           cot_is_off_lines(table, table_len, 7));
+    printf("class 7, a byte short: off the lines %d\n",
+           cot_is_off_lines(table, table_len - 1, 7));
 }
 
 int main(void)
@@ -874,6 +1015,7 @@ int main(void)
     not_in_order();
     order_of_tests();
     stores();
+    epochs();
     helpers();
     return 0;
 }

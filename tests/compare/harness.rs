@@ -1,5 +1,6 @@
 //! Lent memory with guard bytes, the calls into libcot.a, and their comparison with the model.
 
+use crate::epoch_model::{Epoch, SCALE_BYTES};
 use crate::model::{gauge_of, number_at, points_of, records_of, Call, Model, Path};
 use crate::model::{GAUGE_BYTES, LINE_BYTES, POINT_BYTES, RECORD_BYTES, SUM_BYTES, TICKET_BYTES};
 use crate::random::Random;
@@ -81,6 +82,21 @@ extern "C" {
         position: u64,
         store: *mut u8,
         store_len: usize,
+    ) -> u64;
+    fn cot_scale(
+        lookups: *const u8,
+        lookups_len: usize,
+        on: u64,
+        off: u64,
+        lines: u64,
+        records: u64,
+        imbalance_over: u64,
+        imbalance_under: u64,
+        target_over: u64,
+        target_under: u64,
+        tolerance: u64,
+        out: *mut u8,
+        out_len: usize,
     ) -> u64;
 }
 
@@ -365,6 +381,59 @@ pub fn store(
     ))
 }
 
+/// Asks the library and the model what to do at the end of an epoch, each lent the same lookups and
+/// the same bytes to write into, and compares the returned number and every byte, lent and guard.
+/// Gives the number and the written bytes after the call, or what differs.
+pub fn scale(
+    model: &Model,
+    epoch: &Epoch,
+    out: &[u8],
+    random: &mut Random,
+    path: &mut Path,
+) -> Result<(u64, Vec<u8>), String> {
+    let models_lookups = Lent::new(&epoch.lookups, random);
+    let mut models_out = Lent::new(out, random);
+    let mut librarys_lookups = models_lookups.clone();
+    let mut librarys_out = models_out.clone();
+
+    let expected = model.scale(epoch, models_out.bytes_mut(), path).number();
+    let [(lookups, l), (lent, o)] =
+        [&mut librarys_lookups, &mut librarys_out].map(|lent| (lent.pointer_mut(), lent.len));
+    // SAFETY: each pointer is good for its length, or the length is 0. The two do not overlap.
+    let found = unsafe {
+        cot_scale(
+            lookups,
+            l,
+            epoch.on,
+            epoch.off,
+            epoch.lines,
+            epoch.records,
+            epoch.imbalance.over,
+            epoch.imbalance.under,
+            epoch.target.over,
+            epoch.target.under,
+            epoch.tolerance,
+            lent,
+            o,
+        )
+    };
+
+    let mut different = Vec::new();
+    if found != expected {
+        different.push(format!("returned {found}, the model {expected}"));
+    }
+    different.extend(difference("out", &models_out, &librarys_out));
+    different.extend(difference("lookups", &models_lookups, &librarys_lookups));
+    if different.is_empty() {
+        return Ok((found, librarys_out.bytes().to_vec()));
+    }
+    Err(format!(
+        "difference: {}\n{}",
+        different.join("; "),
+        describe_epoch(epoch, out)
+    ))
+}
+
 /// The first byte that differs, and how many do.
 fn difference(name: &str, models: &Lent, librarys: &Lent) -> Option<String> {
     if models.all == librarys.all {
@@ -386,6 +455,10 @@ fn difference(name: &str, models: &Lent, librarys: &Lent) -> Option<String> {
         let at = at - start;
         let field = ["position", "store"][at % POINT_BYTES / 8];
         format!("ring byte {at} (point {}, {field})", at / POINT_BYTES)
+    } else if name == "out" && models.len == SCALE_BYTES {
+        let at = at - start;
+        let field = ["C", "K", "target over", "target under"][at / 8];
+        format!("out byte {at} ({field})")
     } else {
         format!("{name} byte {}", at - start)
     };
@@ -418,7 +491,7 @@ pub fn call_text(call: &Call) -> String {
     }
 }
 
-/// Records or points that are printed in full.
+/// Records, points or stores that are printed in full.
 const MOST: usize = 64;
 
 /// The key's position, and the ring and store bytes before the call, in full for a small ring.
@@ -438,6 +511,36 @@ fn describe_ring(ring: &[u8], position: u64, store: &[u8]) -> String {
     }
     if points.len() > MOST {
         text += &format!("\n  and {} points more", points.len() - MOST);
+    }
+    text
+}
+
+/// All that an epoch is given, and the bytes to write into before the call.
+fn describe_epoch(epoch: &Epoch, out: &[u8]) -> String {
+    let mut text = format!(
+        "  end of an epoch with {} on lines and {} off them, C {} and K {}\n  \
+         imbalance {} over {}, target {} over {}, tolerance {}\n  \
+         lookups {} bytes, out {} bytes",
+        epoch.on,
+        epoch.off,
+        epoch.lines,
+        epoch.records,
+        epoch.imbalance.over,
+        epoch.imbalance.under,
+        epoch.target.over,
+        epoch.target.under,
+        epoch.tolerance,
+        epoch.lookups.len(),
+        out.len()
+    );
+    text += &format!("\n  before: out {out:02x?}");
+    let stores = epoch.stores();
+    text += &format!(
+        "\n  lookups to each store: {:?}",
+        &stores[..stores.len().min(MOST)]
+    );
+    if stores.len() > MOST {
+        text += &format!("\n  and {} stores more", stores.len() - MOST);
     }
     text
 }

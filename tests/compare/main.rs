@@ -3,27 +3,29 @@
 //!
 //!     compare [--seed N] [--calls N] [--verbose] [--fault NAME]
 //!
-//! --calls is the number of single calls in group (a); lists and random rings grow with it. Fewer
-//! than 200,000 may be too few for every answer to come. --verbose prints the counts and the names
-//! of the tests. --fault gives the model a deliberate fault (FAULTS): the groups that it concerns
-//! are run, and the comparison must then fail.
+//! --calls is the number of single calls in group (a); lists, random rings and random epochs grow
+//! with it. Fewer than 200,000 may be too few for every answer to come. --verbose prints the counts
+//! and the names of the tests. --fault gives the model a deliberate fault (FAULTS): the groups that
+//! it concerns are run, and the comparison must then fail.
 
 mod damaged;
+mod epoch_model;
 mod examples;
 mod harness;
 mod lists;
 mod model;
 mod random;
 mod ring;
+mod scale;
 
-use model::{Fault, Model};
+use model::{Fault, Model, Part};
 use std::collections::BTreeMap;
 use std::process::exit;
 
 const SEED: u64 = 20_210_323;
 const CALLS: u64 = 400_000;
 const USAGE: &str = "compare [--seed N] [--calls N] [--verbose] [--fault NAME]";
-const FAULTS: [(&str, Fault); 18] = [
+const FAULTS: [(&str, Fault); 26] = [
     ("admit-equal", Fault::AdmitEqual),
     ("fresh-keeps", Fault::FreshKeeps),
     ("sum-heat", Fault::SumHeat),
@@ -42,6 +44,14 @@ const FAULTS: [(&str, Fault); 18] = [
     ("ring-largest", Fault::RingLargest),
     ("ring-doubled-first", Fault::RingDoubledFirst),
     ("ring-neighbours-only", Fault::RingNeighboursOnly),
+    ("scale-strict-average", Fault::ScaleStrictAverage),
+    ("scale-new-lines-in-target", Fault::ScaleNewLinesInTarget),
+    ("scale-target-reduced", Fault::ScaleTargetReduced),
+    ("scale-halved-down", Fault::ScaleHalvedDown),
+    ("scale-tolerance-added", Fault::ScaleToleranceAdded),
+    ("scale-falls-through", Fault::ScaleFallsThrough),
+    ("scale-zero-least-within", Fault::ScaleZeroLeastWithin),
+    ("scale-sizes-last", Fault::ScaleSizesLast),
 ];
 
 /// How often each answer and each step came.
@@ -173,15 +183,20 @@ fn main() {
     });
     let mut tally = Tally::default();
     let fault = options.model.fault;
-    if !fault.is_some_and(Fault::is_of_rings) {
+    let is_run = |part| fault.map_or(true, |fault| fault.part() == part);
+    if is_run(Part::Tables) {
         single_calls(&options, &mut tally);
         lists_from_fresh(&options, &mut tally);
         lists_past_the_limit(&options, &mut tally);
         paper_examples(&options, &mut tally);
     }
-    if fault.map_or(true, Fault::is_of_rings) {
+    if is_run(Part::Rings) {
         random_rings(&options, &mut tally);
         ring_examples(&options, &mut tally);
+    }
+    if is_run(Part::Epochs) {
+        random_epochs(&options, &mut tally);
+        epoch_examples(&options, &mut tally);
     }
     println!("{} passed, {} failed", tally.passed, tally.failed);
     exit(if tally.failed == 0 { 0 } else { 1 });
@@ -307,6 +322,34 @@ fn ring_examples(options: &Options, tally: &mut Tally) {
     tally.end_group(&format!(
         "(f) {} examples of stores and rings, with every wrong length of a ring",
         ring::EXAMPLES.len()
+    ));
+}
+
+/// Group (g).
+fn random_epochs(options: &Options, tally: &mut Tally) {
+    let mut counts = Counts::default();
+    let epochs = (options.calls / 10 * 3).max(60_000);
+    let result = scale::run(options.seed, epochs, &options.model, &mut counts);
+    let calls = tally.test(result).unwrap_or(0);
+    let answers = scale::ANSWERS.map(|name| {
+        let (_, answer) = name.split_once(' ').expect("two words");
+        format!("{answer}: {}", counts.of(name))
+    });
+    tally.end_group(&format!(
+        "(g) {calls} calls at the end of random epochs; scale {}",
+        answers.join(", ")
+    ));
+    if options.verbose {
+        counts.print();
+    }
+}
+
+/// Group (h).
+fn epoch_examples(options: &Options, tally: &mut Tally) {
+    examples(&scale::EXAMPLES, options, tally);
+    tally.end_group(&format!(
+        "(h) {} examples of epochs, with every wrong length of lookups and of out",
+        scale::EXAMPLES.len()
     ));
 }
 

@@ -3,7 +3,7 @@
 //!
 //! In document 01's order, and independent of the library's code. Words in quotes are the
 //! documents'; document 02's on tickets are those of its Ask 2, on withdrawals of its Ask 4, on the
-//! victim of its Ask 5, and on rings of its Ask 6.
+//! victim of its Ask 5, and on rings of its Ask 6. The rules of its Ask 7 are in epoch_model.rs.
 
 use std::collections::BTreeMap;
 
@@ -230,7 +230,8 @@ pub enum Call {
     LevelledSum,
 }
 
-/// What a call answers. Wanted has the line number and the ticket.
+/// What a call answers. Wanted has the line number and the ticket. The last four are those of the
+/// end of an epoch.
 #[derive(Clone, Copy, Debug, PartialEq, Eq)]
 pub enum Answer {
     Refused(u64),
@@ -243,12 +244,16 @@ pub enum Answer {
     Withdrawn,
     Hit(u64),
     Wanted(u64, u64),
+    Grow,
+    Shrink,
+    Age,
+    Stay,
 }
 
 impl Answer {
     /// "returns one number: a refusal's own, 100 for aged, 101 changed, 102 unknown, 103 stored,
     /// 104 passed, 2,000 + n for hit and 4,000 + n for wanted on line n". Document 02: "withdrawn
-    /// (105 when exported)". Done is 0 in cot.h.
+    /// (105 when exported)". Done is 0 in cot.h, and the four of an epoch follow 105 there.
     pub fn number(self) -> u64 {
         match self {
             Answer::Refused(number) => number,
@@ -261,6 +266,10 @@ impl Answer {
             Answer::Withdrawn => 105,
             Answer::Hit(line) => 2_000 + line,
             Answer::Wanted(line, _) => 4_000 + line,
+            Answer::Grow => 106,
+            Answer::Shrink => 107,
+            Answer::Age => 108,
+            Answer::Stay => 109,
         }
     }
 }
@@ -1045,20 +1054,66 @@ pub enum Fault {
     RingDoubledFirst,
     /// For cause 11 a point's position is compared with the next one's only.
     RingNeighboursOnly,
+    /// A grow is due only where the average on the lines is over that off them.
+    ScaleStrictAverage,
+    /// The new target is hits on lines over the new C.
+    ScaleNewLinesInTarget,
+    /// The new target is reduced.
+    ScaleTargetReduced,
+    /// A shrink halves K down.
+    ScaleHalvedDown,
+    /// The tolerated target is over the target by the tolerance.
+    ScaleToleranceAdded,
+    /// A grow with twice K over 1,024 goes on to shrink and age.
+    ScaleFallsThrough,
+    /// Greatest lookups above 0 with least 0 is within every target.
+    ScaleZeroLeastWithin,
+    /// Cause 13 is tested before cause 1.
+    ScaleSizesLast,
+}
+
+/// What is compared in groups of its own.
+#[derive(Clone, Copy, Debug, PartialEq, Eq)]
+pub enum Part {
+    /// The calls on table, gauge and lines.
+    Tables,
+    /// The call for a store.
+    Rings,
+    /// The call at the end of an epoch.
+    Epochs,
 }
 
 impl Fault {
-    /// Whether it is one of the call for a store, which is compared in groups of its own.
-    pub fn is_of_rings(self) -> bool {
-        matches!(
-            self,
+    /// The part that it concerns.
+    pub fn part(self) -> Part {
+        match self {
+            Fault::AdmitEqual
+            | Fault::FreshKeeps
+            | Fault::SumHeat
+            | Fault::LookWarms
+            | Fault::KeepsTicket
+            | Fault::TicketOnHit
+            | Fault::AnyTicket
+            | Fault::FreeTakesLine
+            | Fault::VictimByHeat
+            | Fault::VictimLeastSlack
+            | Fault::VictimLowHalf
+            | Fault::ColdestBySlack => Part::Tables,
             Fault::RingKeyMinusPoint
-                | Fault::RingNoWrap
-                | Fault::RingLowHalf
-                | Fault::RingLargest
-                | Fault::RingDoubledFirst
-                | Fault::RingNeighboursOnly
-        )
+            | Fault::RingNoWrap
+            | Fault::RingLowHalf
+            | Fault::RingLargest
+            | Fault::RingDoubledFirst
+            | Fault::RingNeighboursOnly => Part::Rings,
+            Fault::ScaleStrictAverage
+            | Fault::ScaleNewLinesInTarget
+            | Fault::ScaleTargetReduced
+            | Fault::ScaleHalvedDown
+            | Fault::ScaleToleranceAdded
+            | Fault::ScaleFallsThrough
+            | Fault::ScaleZeroLeastWithin
+            | Fault::ScaleSizesLast => Part::Epochs,
+        }
     }
 }
 

@@ -94,6 +94,9 @@ fn word(answer: Answer) -> String {
         Answer::Hit(_) => "hit".into(),
         Answer::Wanted(..) => "wanted".into(),
         Answer::Withdrawn => "withdrawn".into(),
+        Answer::Grow | Answer::Shrink | Answer::Age | Answer::Stay => {
+            unreachable!("no record of a journal ends an epoch")
+        }
     }
 }
 

@@ -10,9 +10,11 @@ ghost use Rattle.rules.specs.Table.{Memory};
 ghost use Rattle.rules.specs.Steps.{Outcome, outcome};
 ghost use Rattle.rules.specs.Calls.{lent, host_lent, hosted, read_lent, put_ticket, exported, exported_read, read_outcome, update_outcome, fill_outcome, withdraw_outcome, age_outcome, exported_fresh, exported_sum};
 ghost use Rattle.ring.specs.Ring.{exported_store};
+ghost use Rattle.scaler.specs.Scale.{exported_scale, epoch};
 
 use records::{get_u64, put_u64};
 use rules::{Answer, Gauge, Refusal};
+use scaler::{Epoch, Ratio};
 
 // The size of a host's gauge, in bytes.
 pub const GAUGE_SIZE: usize = 24;
@@ -226,4 +228,40 @@ pub extern "C" fn cot_store(ring: &[u8], position: u64, store: &mut [u8]) -> u64
     ensures { outcome result store.new ≡ exported_store ring.now position store.old }
 {
     completion_number(store_of(ring, position, store))
+}
+
+// Whether a table should grow, shrink, age or stay at the end of an epoch with so many lookups to each store. The 32 lent bytes get the
+// lines and records to which it grows or shrinks, and where it grows the new target.
+#[unsafe(no_mangle)]
+pub extern "C" fn cot_scale(
+    lookups: &[u8],
+    on: u64,
+    off: u64,
+    lines: u64,
+    records: u64,
+    imbalance_over: u64,
+    imbalance_under: u64,
+    target_over: u64,
+    target_under: u64,
+    tolerance: u64,
+    out: &mut [u8],
+) -> u64
+    ensures { outcome result out.new ≡ exported_scale lookups.now (epoch on off lines records imbalance_over imbalance_under target_over target_under tolerance) out.old }
+{
+    let epoch = Epoch {
+        on,
+        off,
+        lines,
+        records,
+        imbalance: Ratio {
+            over: imbalance_over,
+            under: imbalance_under,
+        },
+        target: Ratio {
+            over: target_over,
+            under: target_under,
+        },
+        tolerance,
+    };
+    scaler::tell(lookups, epoch, out)
 }

@@ -1,11 +1,12 @@
 // Runs what a Rattle caller can call and nothing else here runs, and prints what each call gives: fresh on memory that is not zero,
 // show, the levelled sum, the calls on a gauge that the caller holds, looks and withdrawals among them, a late fill, a serial that is
-// spent, a key's store by a ring, the journal's reader, and a run whose rows have no room.
+// spent, a key's store by a ring, the ends of epochs, the journal's reader, and a run whose rows have no room.
 #![tactic(auto)]
 
 use journal::{ENTRY_SIZE, decode, first_two};
 use records::{RECORD_SIZE, put_record};
 use rules::{Answer, Entry, Gauge, Record, Refusal, SERIAL_LIMIT, State};
+use scaler::{Epoch, Ratio, Scale};
 use std::io::Write;
 use std::{fmt, io};
 
@@ -290,6 +291,58 @@ fn stores(rt: &impl Print) -> io::Result<()> {
     store(rt, &[0u8; 32], 10)
 }
 
+fn epoch(rt: &impl Print, lookups: &[u8], epoch: Epoch) -> io::Result<()> {
+    match scaler::decide(lookups, epoch) {
+        Ok(
+            Scale::Grow {
+                lines,
+                records,
+                target,
+            },
+        ) => {
+            println!(rt;
+                "epoch: grow {lines} {records}, target {} / {}",
+                target.over, target.under
+            )
+        }
+        Ok(Scale::Shrink { lines, records }) => println!(rt; "epoch: shrink {lines} {records}"),
+        Ok(Scale::Age) => println!(rt; "epoch: age"),
+        Ok(Scale::Stay) => println!(rt; "epoch: stay"),
+        Err(cause) => println!(rt; "epoch: {cause}"),
+    }
+}
+
+// Two stores, uneven and even: a grow, a shrink, an aging and a stay; then no store, and as many lines as records.
+fn epochs(rt: &impl Print) -> io::Result<()> {
+    let uneven = [111u64.to_le_bytes(), 100u64.to_le_bytes()];
+    let uneven = uneven.as_flattened();
+    let even = [110u64.to_le_bytes(), 100u64.to_le_bytes()];
+    let even = even.as_flattened();
+    let first = Epoch {
+        on: 100,
+        off: 300,
+        lines: 2,
+        records: 8,
+        imbalance: Ratio {
+            over: 11,
+            under: 10,
+        },
+        target: Ratio { over: 50, under: 1 },
+        tolerance: 100,
+    };
+    epoch(rt, uneven, first)?;
+    let colder = Epoch {
+        on: 89,
+        off: 269,
+        ..first
+    };
+    epoch(rt, even, colder)?;
+    epoch(rt, even, Epoch { off: 271, ..colder })?;
+    epoch(rt, even, first)?;
+    epoch(rt, b"", first)?;
+    epoch(rt, even, Epoch { lines: 8, ..first })
+}
+
 // The bytes of a journal record without a picture and a ticket.
 fn entry(kind: u8, weight: u16, key: u64) -> [u8; ENTRY_SIZE] {
     let mut bytes = [0; ENTRY_SIZE];
@@ -405,6 +458,7 @@ fn main(rt: HostRuntime) -> io::Result<()> {
     spent(&rt, &mut hub)?;
     sums(&rt)?;
     stores(&rt)?;
+    epochs(&rt)?;
     entries(&rt)?;
     runs(&rt)
 }

@@ -11,7 +11,7 @@ use Rattle.rules.specs.declared.Gauge.{Gauge}
 use Rattle.rules.specs.declared.Answer.{Answer}
 use Rattle.rules.specs.declared.Answer.TheVariants.{Aged, Changed, Stored, Passed, Withdrawn, Hit, Wanted}
 use Rattle.rules.specs.declared.Refusal.{Refusal}
-use Rattle.rules.specs.declared.Refusal.TheVariants.{WrongSizes, WrongWeight, NotInOrder, WrongPicture, NoLine, AlreadyFilled, UnknownForm, ShortEnd, StaleTicket, SerialSpent, DoubledPosition, WrongRing}
+use Rattle.rules.specs.declared.Refusal.TheVariants.{WrongSizes, WrongWeight, NotInOrder, WrongPicture, NoLine, AlreadyFilled, UnknownForm, ShortEnd, StaleTicket, SerialSpent, DoubledPosition, WrongRing, WrongEpoch}
 use Rattle.rules.specs.Refusals.{number}
 use Rattle.rules.specs.declared.Entry.{Entry}
 use Rattle.rules.specs.Answers.{Reply}
@@ -546,8 +546,9 @@ pub refusals_numbered :
     × (number SerialSpent ≡ 10)
     × (number DoubledPosition ≡ 11)
     × (number WrongRing ≡ 12)
+    × (number WrongEpoch ≡ 13)
 unfolding number
-refusals_numbered = (refl, refl, refl, refl, refl, refl, refl, refl, refl, refl, refl, refl)
+refusals_numbered = (refl, refl, refl, refl, refl, refl, refl, refl, refl, refl, refl, refl, refl)
 
 -- ---- among equally cold classes without a line the one with the most slack leaves, whatever its place and key
 pub most_slack_leaves :

@@ -13,7 +13,7 @@ use Rattle.std.specs.Prelude.{Ok, Err}
 use Rattle.rules.specs.Pass.{Found}
 use Rattle.std.specs.Prelude.{Some, None}
 use Rattle.rules.specs.declared.Refusal.{Refusal}
-use Rattle.rules.specs.declared.Refusal.TheVariants.{WrongSizes, WrongWeight, NotInOrder, WrongPicture, NoLine, AlreadyFilled, UnknownForm, ShortEnd, StaleTicket, SerialSpent, DoubledPosition, WrongRing}
+use Rattle.rules.specs.declared.Refusal.TheVariants.{WrongSizes, WrongWeight, NotInOrder, WrongPicture, NoLine, AlreadyFilled, UnknownForm, ShortEnd, StaleTicket, SerialSpent, DoubledPosition, WrongRing, WrongEpoch}
 use Rattle.rules.specs.Refusals.{number}
 use Rattle.rules.specs.declared.Lookup.{Lookup}
 use Rattle.rules.specs.declared.Lookup.TheVariants.{Untracked, Unlined, Lined}
@@ -116,6 +116,7 @@ number_few StaleTicket = omega arith
 number_few SerialSpent = omega arith
 number_few DoubledPosition = omega arith
 number_few WrongRing = omega arith
+number_few WrongEpoch = omega arith
 
 -- | a refusal's own
 pub every_told : (a : Reply) → Told a

@@ -1,7 +1,7 @@
 -- The paper's number for each cause of refusal.
 use Rattle.std.specs.Prelude.{ℕ}
 use Rattle.rules.specs.declared.Refusal.{Refusal}
-use Rattle.rules.specs.declared.Refusal.TheVariants.{WrongSizes, WrongWeight, NotInOrder, WrongPicture, NoLine, AlreadyFilled, UnknownForm, ShortEnd, StaleTicket, SerialSpent, DoubledPosition, WrongRing}
+use Rattle.rules.specs.declared.Refusal.TheVariants.{WrongSizes, WrongWeight, NotInOrder, WrongPicture, NoLine, AlreadyFilled, UnknownForm, ShortEnd, StaleTicket, SerialSpent, DoubledPosition, WrongRing, WrongEpoch}
 
 unfoldable pub number : Refusal → ℕ
 -- | 1: table not whole records, K outside 1 to 1,024, lines not whole, C not under K, gauge bytes not [24]
@@ -28,3 +28,6 @@ number SerialSpent = 10
 number DoubledPosition = 11
 -- | 12, a ring of no point, over 1,024 or not whole points (document 02)
 number WrongRing = 12
+-- | 13, after 1, for stores outside 1 to 64, a count over 1,048,576, a fraction part over that or a denominator of 0, an imbalance
+-- | below 1, or a tolerance over 999 (document 02)
+number WrongEpoch = 13

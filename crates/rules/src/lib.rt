@@ -36,6 +36,7 @@ pub enum Refusal {
     SerialSpent = 10,
     DoubledPosition = 11,
     WrongRing = 12,
+    WrongEpoch = 13,
 }
 
 impl From<Refusal> for u64 {

@@ -1,0 +1,9 @@
+pub mod Extremes
+pub mod Bounds
+pub mod Due
+pub mod Told
+pub mod Fractions
+pub mod Deciding
+pub mod Cases
+pub mod Computing
+pub mod Examples

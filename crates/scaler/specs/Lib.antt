@@ -1,0 +1,4 @@
+pub mod Scale
+pub mod Bounds
+pub mod Cases
+pub mod Fractions
