@@ -1,4 +1,4 @@
--- Algorithm 3, case by case, with each cross product written out: which answer an accepted epoch has. Every epoch is of one of the cases.
+-- Algorithm 3, case by case, with each cross product written out: which answer an accepted epoch has.
 -- Assumes nothing but what each says.
 use Prim.Native.Nat.{ℕ, ◌+◌, ◌-◌, ◌*◌, ◌/◌, ◌≤◌, ◌<◌}
 use mathlib.Core.Path.{◌≡◌, refl}

@@ -51,7 +51,7 @@ module _ (lookups : List ℕ) (e : Epoch) where
 
   abbrev Answers : Scale → Type 0
   Answers (Grow lines records target) =
-      AreSizes lines records × (lines ≡ 2 * e.lines) × (records ≡ 2 * e.records) × (target ≡ ratio e.on e.lines)
+      AreSizes lines records × (lines ≡ 2 * e.lines) × (target ≡ ratio e.on e.lines)
   Answers (Shrink lines records) = AreSizes lines records
   Answers Age = Unit
   Answers Stay = Unit
@@ -67,7 +67,6 @@ module _ (lookups : List ℕ) (e : Epoch) where
           records_more = omega (arith, h.sizes.records_more);
           records_few = leb-true _ _ fits;
         },
-        refl,
         refl,
         refl,
       )
@@ -103,7 +102,7 @@ module _ (lookups : List ℕ) (e : Epoch) where
         under_some = h.0.sizes.lines_some;
         under_few = omega (arith, h.0.sizes.records_more, h.0.sizes.records_few);
       } in
-      (says.3, says.1, rw says.3 fraction)
+      (says.2, says.1, rw says.2 fraction)
 
 -- a table of so many records, with so many lines, has the sizes that a call asks of it
 pub sized_table : (lines records : ℕ) (m : Memory) → AreSizes lines records → length m.table ≡ record_size * records →

@@ -16,43 +16,40 @@ use Rattle.scaler.specs.Bounds.{InBounds, IsFraction}
 use Rattle.scaler.specs.Fractions.{Equals, times, with_fractions}
 use Rattle.scaler.proofs.Bounds.{accepted_epoch, in_bounds}
 
--- ---- x over y, u over v and p over q
-module _ (x y u v p q : ℕ) (same : x * v ≡ u * y) (some : 1 ≤ y) (other : 1 ≤ v) where
-  before : x * q * v ≡ u * q * y
-  before = mul_right_comm x q v ∙ ap (λ n. n * q) same ∙ mul_right_comm u y q
+-- ---- where a and b, times v, are c and d, times y
+scaled_less : (a b c d v y : ℕ) → a * v ≡ c * y → b * v ≡ d * y → 1 ≤ v → a < b → c < d
+scaled_less a b c d v y first second some l =
+    let more : a * v < b * v = mul-lt-mul_of_pos_right l some in
+    lt_of_mul-lt-mul_right y (omega (arith, first, second, more))
 
-  across_left : x * q < p * y → u * q < p * v
-  across_left l =
-      let more : x * q * v < p * y * v = mul-lt-mul_of_pos_right l other in
-      lt_of_mul-lt-mul_right y (omega (arith, before, more, mul_right_comm p y v))
-
-  across_right : p * y < x * q → p * v < u * q
-  across_right l =
-      let more : p * y * v < x * q * v = mul-lt-mul_of_pos_right l other in
-      lt_of_mul-lt-mul_right y (omega (arith, before, more, mul_right_comm p y v))
-
-same_test : (a b c d : ℕ) → (a < b → c < d) → (c < d → a < b) → ltb a b ≡ ltb c d
-same_test a b c d to from = go (ltb a b) (ltb c d) refl refl
+scaled_test : (a b c d v y : ℕ) → a * v ≡ c * y → b * v ≡ d * y → 1 ≤ v → 1 ≤ y → ltb a b ≡ ltb c d
+scaled_test a b c d v y first second some also = go (ltb a b) (ltb c d) refl refl
   where
     go : (s t : Bool) → ltb a b ≡ s → ltb c d ≡ t → s ≡ t
     go true true es et = refl
     go false false es et = refl
-    go true false es et = let l = to (ltb-true a b es) in absurd (omega (arith, l, ltb-false c d et))
-    go false true es et = let l = from (ltb-true c d et) in absurd (omega (arith, l, ltb-false a b es))
+    go true false es et =
+        let l = scaled_less a b c d v y first second some (ltb-true a b es) in
+        absurd (omega (arith, l, ltb-false c d et))
+    go false true es et =
+        let l = scaled_less c d a b y v (sym first) (sym second) also (ltb-true c d et) in
+        absurd (omega (arith, l, ltb-false a b es))
 
 -- ---- a ratio in place of an equal one
 module _ (a b : Ratio) (same : Equals a b) (some : 1 ≤ a.under) (other : 1 ≤ b.under) (c : Ratio) where
+  overs : a.over * c.under * b.under ≡ b.over * c.under * a.under
+  overs = mul_right_comm a.over c.under b.under ∙ ap (λ n. n * c.under) same ∙ mul_right_comm b.over a.under c.under
+
+  unders : c.over * a.under * b.under ≡ c.over * b.under * a.under
+  unders = mul_right_comm c.over a.under b.under
+
   below_left : below a c ≡ below b c
   unfolding below
-  below_left =
-      same_test _ _ _ _ (across_left a.over a.under b.over b.under c.over c.under same some other)
-      (across_left b.over b.under a.over a.under c.over c.under (sym same) other some)
+  below_left = scaled_test _ _ _ _ b.under a.under overs unders other some
 
   below_right : below c a ≡ below c b
   unfolding below
-  below_right =
-      same_test _ _ _ _ (across_right a.over a.under b.over b.under c.over c.under same some other)
-      (across_right b.over b.under a.over a.under c.over c.under (sym same) other some)
+  below_right = scaled_test _ _ _ _ b.under a.under unders overs other some
 
 module _ (lookups : List ℕ) (e : Epoch) (imbalance target : Ratio) (same_imbalance : Equals imbalance e.imbalance)
     (same_target : Equals target e.target) (accepted : scale_verdict lookups e ≡ Ok tt) where
@@ -105,30 +102,27 @@ times_same : (n : ℕ) (r : Ratio) → Equals (times n r) r
 unfolding times
 times_same n r = mul_assoc n r.over r.under ∙ mul_left_comm n r.over r.under
 
+some_parts : (n m : ℕ) → 1 ≤ n * m → (1 ≤ n) × (1 ≤ m)
+some_parts zero m some = absurd (omega (arith, some))
+some_parts (suc n) zero some = absurd (omega (arith, some))
+some_parts (suc n) (suc m) some = (omega arith, omega arith)
+
 module _ (n : ℕ) (r : Ratio) (h : IsFraction (times n r)) where
-  some_times : 1 ≤ n
+  parts : (1 ≤ n) × (1 ≤ r.under)
   unfolding times
-  some_times = go n h.under_some
-    where
-      go : (n : ℕ) → 1 ≤ n * r.under → 1 ≤ n
-      go zero some = absurd (omega (arith, some))
-      go (suc n) some = omega arith
+  parts = some_parts n r.under h.under_some
 
   no_more : (part : ℕ) → part ≤ n * part
-  no_more part = omega (arith, mul-le-mul_right part some_times)
+  no_more part = omega (arith, mul-le-mul_right part parts.0)
 
   one_fraction : IsFraction r
   unfolding times
   one_fraction =
       record {
         over_few = omega (arith, h.over_few, no_more r.over);
-        under_some = go r.under h.under_some;
+        under_some = parts.1;
         under_few = omega (arith, h.under_few, no_more r.under);
       }
-    where
-      go : (u : ℕ) → 1 ≤ n * u → 1 ≤ u
-      go zero some = absurd (omega (arith, some))
-      go (suc u) some = omega arith
 
 module _ (lookups : List ℕ) (e : Epoch) (i t : ℕ) where
   abbrev written : Epoch
@@ -146,7 +140,7 @@ module _ (lookups : List ℕ) (e : Epoch) (i t : ℕ) where
         on_few = h.on_few;
         off_few = h.off_few;
         imbalance = one_fraction i e.imbalance h.imbalance;
-        imbalance_some = le_of_mul-le-mul_left {k = i} h.imbalance_some (some_times i e.imbalance h.imbalance);
+        imbalance_some = le_of_mul-le-mul_left {k = i} h.imbalance_some (parts i e.imbalance h.imbalance).0;
         target = one_fraction t e.target h.target;
         tolerance_few = h.tolerance_few;
       }
