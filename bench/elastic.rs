@@ -6,7 +6,7 @@
 //! Prints Markdown tables and writes the plot. The keys come by Zipf 1.2 and
 //! then uniformly, in epochs of 5,000 reads; what is not in the cache is looked
 //! up at one of 8 stores. At the end of an epoch the host asks cot_scale and
-//! does what it tells. It resizes by a fresh table, so the heats are lost.
+//! does what it tells. It resizes by cot_resize, which keeps heats and pictures.
 //!
 //! The paper's client also searches the number of records for each line, in a
 //! phase of its own. Algorithm 3 has no such step: here K is 2 C. With K = 4 C
@@ -37,6 +37,12 @@ extern "C" {
     fn cot_age(
         table: *mut u8, table_len: usize, gauge: *mut u8, gauge_len: usize,
         lines: *const u8, lines_len: usize,
+    ) -> u64;
+    fn cot_resize(
+        table: *const u8, table_len: usize, gauge: *const u8, gauge_len: usize,
+        lines: *const u8, lines_len: usize,
+        to_table: *mut u8, to_table_len: usize, to_gauge: *mut u8, to_gauge_len: usize,
+        to_lines: *mut u8, to_lines_len: usize,
     ) -> u64;
     fn cot_store(
         ring: *const u8, ring_len: usize, position: u64, store: *mut u8, store_len: usize,
@@ -114,11 +120,15 @@ struct Cache {
 
 #[rustfmt::skip]
 impl Cache {
-    fn fresh(lines: usize, records: usize) -> Self {
-        let mut cache = Cache {
+    fn zeroed(lines: usize, records: usize) -> Self {
+        Cache {
             table: vec![0; 40 * records], gauge: [0; 24], lines: vec![0; 64 * lines],
             ticket: [0; 8],
-        };
+        }
+    }
+
+    fn fresh(lines: usize, records: usize) -> Self {
+        let mut cache = Cache::zeroed(lines, records);
         // SAFETY: each pointer comes with the length of its own buffer.
         let answer = unsafe {
             cot_fresh(
@@ -187,6 +197,24 @@ impl Cache {
             )
         };
         assert_eq!(answer, 100, "age");
+    }
+
+    /// The cache in buffers of other sizes.
+    fn resized(&self, lines: usize, records: usize) -> Self {
+        let mut target = Cache::zeroed(lines, records);
+        // SAFETY: each pointer comes with the length of its own buffer.
+        let answer = unsafe {
+            cot_resize(
+                self.table.as_ptr(), self.table.len(),
+                self.gauge.as_ptr(), self.gauge.len(),
+                self.lines.as_ptr(), self.lines.len(),
+                target.table.as_mut_ptr(), target.table.len(),
+                target.gauge.as_mut_ptr(), target.gauge.len(),
+                target.lines.as_mut_ptr(), target.lines.len(),
+            )
+        };
+        assert_eq!(answer, 0, "resize");
+        target
     }
 }
 
@@ -352,7 +380,7 @@ fn simulate(run: &Run, keys: &[usize], stores: &[usize]) -> Vec<Row> {
     let mut target = (0, 1);
     // Whether the target is still to be taken.
     let mut searching = true;
-    // Epochs since the cache was fresh, and their lookups after the warm-up.
+    // Epochs since the start or a resize, and their lookups after the warm-up.
     let mut since = 0;
     let mut counted: Vec<Lookups> = Vec::new();
     let mut rows = Vec::new();
@@ -429,7 +457,7 @@ fn simulate(run: &Run, keys: &[usize], stores: &[usize]) -> Vec<Row> {
                 }
             };
             if resized {
-                cache = Cache::fresh(lines, records);
+                cache = cache.resized(lines, records);
                 since = 0;
                 counted.clear();
             }
@@ -498,10 +526,10 @@ fn print_setting(stores: &[usize]) {
         AIM.1
     );
     println!(
-        "Resizing is by a fresh table until request 8 is there: the heats are lost and the cache \
-         is cold. So {WARM_UP} epochs after each resize are not judged (warming). Where the \
-         lookups are those of ten epochs, those come after the warm-up, and nothing is judged \
-         until they are over (counting).\n"
+        "Resizing is by cot_resize, which keeps heats and pictures. As in the paper {WARM_UP} \
+         epochs after each resize are not judged (warming). Where the lookups are those of ten \
+         epochs, those come after the warm-up, and nothing is judged until they are over \
+         (counting).\n"
     );
     println!("Imbalance by the likelihoods alone, with the C most likely keys cached:\n");
     println!("| C | Zipf {ZIPF} | uniform |\n|---:|---:|---:|");

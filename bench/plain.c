@@ -417,3 +417,114 @@ uint64_t plain_levelled_sum(const uint8_t *table, size_t table_len,
     put(sum, all);
     return DONE;
 }
+
+/* ---- resize */
+
+static bool any(uint64_t state) { return state != FREE; }
+
+/* How many records are in such a state. */
+static size_t count(const uint8_t *table, size_t table_len, bool wanted(uint64_t state))
+{
+    size_t n = 0;
+
+    for (const uint8_t *r = table; r < table + table_len; r += RECORD_BYTES)
+        n += wanted(get(r + STATE));
+    return n;
+}
+
+/* The coldest record on a line. */
+static uint8_t *coldest_on_line(uint8_t *table, size_t table_len)
+{
+    uint8_t *end = table + table_len;
+    uint8_t *coldest = NULL;
+    uint64_t least = UINT64_MAX;
+
+    for (uint8_t *r = table; r < end; r += RECORD_BYTES)
+        if (get(r + HEAT) < least && on_line(get(r + STATE))) {
+            least = get(r + HEAT);
+            coldest = r;
+        }
+    return coldest;
+}
+
+/* The coldest record without a line, of equally cold ones that with the most slack. */
+static uint8_t *victim(uint8_t *table, size_t table_len)
+{
+    uint8_t *end = table + table_len;
+    uint8_t *victim = NULL;
+    uint64_t least = UINT64_MAX, most = 0; /* its heat and slack */
+
+    for (uint8_t *r = table; r < end; r += RECORD_BYTES) {
+        uint64_t heat = get(r + HEAT), slack = get(r + SLACK);
+        if (heat + (slack <= most) <= least && get(r + STATE) == TRACKED) {
+            least = heat;
+            most = slack;
+            victim = r;
+        }
+    }
+    return victim;
+}
+
+/* The tracked records come to the target, in their order, with new line numbers. */
+static size_t pack(const uint8_t *table, size_t table_len, const uint8_t *lines,
+                   uint8_t *to_table, uint8_t *to_lines)
+{
+    uint8_t *to = to_table;
+    size_t line = 0;
+
+    for (const uint8_t *r = table; r < table + table_len; r += RECORD_BYTES) {
+        uint64_t state = get(r + STATE);
+        if (state == FREE)
+            continue;
+        memcpy(to, r, RECORD_BYTES);
+        if (on_line(state)) {
+            put(to + STATE, empty_line(line) + is_filled(state));
+            memcpy(to_lines + LINE_BYTES * line, lines + LINE_BYTES * line_of(state), LINE_BYTES);
+            line++;
+        }
+        to += RECORD_BYTES;
+    }
+    return line;
+}
+
+uint64_t plain_resize(const uint8_t *table, size_t table_len,
+                      const uint8_t *gauge, size_t gauge_len,
+                      const uint8_t *lines, size_t lines_len,
+                      uint8_t *to_table, size_t to_table_len,
+                      uint8_t *to_gauge, size_t to_gauge_len,
+                      uint8_t *to_lines, size_t to_lines_len)
+{
+    uint8_t kept[MAX_RECORDS * RECORD_BYTES];
+    size_t records = to_table_len / RECORD_BYTES, places = to_lines_len / LINE_BYTES;
+    uint8_t *r;
+
+    if (!sizes_fit(table_len, gauge_len, lines_len) ||
+        !sizes_fit(to_table_len, to_gauge_len, to_lines_len))
+        return BAD_SIZE;
+    if (!in_order(table, table_len, gauge, lines_len))
+        return BAD_ORDER;
+    if (used_up(gauge))
+        return NO_SERIAL;
+
+    memcpy(kept, table, table_len);
+    memcpy(to_gauge, gauge, GAUGE_BYTES);
+    for (size_t n = count(kept, table_len, on_line); n > places; n--) {
+        r = coldest_on_line(kept, table_len);
+        put(r + STATE, TRACKED);
+        put(r + TICKET, 0);
+    }
+    for (size_t n = count(kept, table_len, any); n > records; n--) {
+        r = victim(kept, table_len); /* one is there, since C is under K */
+        if (get(r + HEAT) > get(to_gauge + CEILING))
+            put(to_gauge + CEILING, get(r + HEAT));
+        memset(r, 0, RECORD_BYTES);
+    }
+    memset(to_table, 0, to_table_len);
+    for (size_t n = pack(kept, table_len, lines, to_table, to_lines); n < places; n++) {
+        r = hottest_without_line(to_table, to_table_len);
+        if (!r)
+            break;
+        give_line(to_gauge, r, n);
+    }
+    return DONE;
+}

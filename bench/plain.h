@@ -1,5 +1,5 @@
 /* The exported calls of the cache, written in plain C from documents 01 and 02.
- * They stand beside the library in bench/speed.c.
+ * They stand beside the library in bench/speed.c, rare.c, cases.c and resize.c.
  *
  * table: K records of 40 bytes (key, heat, slack, state, ticket); gauge: 24
  * bytes (total, ceiling, serial); lines: C lines of 64 bytes; ticket: 8 bytes,
@@ -47,5 +47,12 @@ uint64_t plain_levelled_sum(const uint8_t *table, size_t table_len,
                             const uint8_t *gauge, size_t gauge_len,
                             const uint8_t *lines, size_t lines_len,
                             uint8_t *sum, size_t sum_len);
+
+uint64_t plain_resize(const uint8_t *table, size_t table_len,
+                      const uint8_t *gauge, size_t gauge_len,
+                      const uint8_t *lines, size_t lines_len,
+                      uint8_t *to_table, size_t to_table_len,
+                      uint8_t *to_gauge, size_t to_gauge_len,
+                      uint8_t *to_lines, size_t to_lines_len);
 
 #endif

@@ -1,6 +1,6 @@
 #!/usr/bin/env bash
 # Nanoseconds and instructions a call of the library beside the plain C version,
-# rare calls, stores of a ring and the ends of epochs too.
+# rare calls, resizes, stores of a ring and the ends of epochs too.
 #   bash bench/speed.sh [--calls N]
 set -euo pipefail
 cd "$(dirname "$0")/.."
@@ -18,6 +18,7 @@ gcc "${flags[@]}" -c bench/speed.c -o "$out/speed.o"
 gcc "${flags[@]}" -c bench/plain.c -o "$out/plain.o"
 gcc "${flags[@]}" "$padding" -c bench/plain.c -o "$out/padded.o"
 gcc "${flags[@]}" -Iinclude -c bench/rare.c -o "$out/rare.o"
+gcc "${flags[@]}" -Iinclude -c bench/resize.c -o "$out/resize.o"
 gcc "${flags[@]}" -Iinclude -c bench/store.c -o "$out/store.o"
 gcc "${flags[@]}" -Iinclude -c bench/scale.c -o "$out/scale.o"
 gcc "${flags[@]}" "$padding" -o "$out/width" bench/width.c
@@ -31,6 +32,7 @@ for place in 16 32 48 64; do
         gcc -o "$out/$version-$place" "$out/place.o" "$out/speed.o" "$out/$version.o" "$library" -lm
     done
     gcc -o "$out/rare-$place" "$out/place.o" "$out/rare.o" "$out/plain.o" "$library" -lm
+    gcc -o "$out/resize-$place" "$out/place.o" "$out/resize.o" "$out/plain.o" "$library" -lm
     gcc -o "$out/store-$place" "$out/place.o" "$out/store.o" "$library" -lm
     gcc -o "$out/scale-$place" "$out/place.o" "$out/scale.o" "$library" -lm
 done
@@ -76,6 +78,23 @@ awk -F'|' '
         for (i = 1; i <= n; i++)
             printf "|%s|%s|%s| %5.2f |\n", rows[i], library[rows[i]], plain[rows[i]], library[rows[i]] / plain[rows[i]]
     }' "$out"/rare-{16,32,48,64}.txt
+
+echo
+echo "Microseconds a resize, best of all runs:"
+echo
+for place in 16 32 48 64; do
+    "$out/resize-$place" > "$out/resize-$place.txt"
+done
+awk -F'|' '
+    FNR < 3 { if (NR == FNR) print; next }
+    { row = $2 "|" $3 "|" $4 }
+    !(row in library) { rows[++n] = row; library[row] = $5; plain[row] = $6 }
+    $5 + 0 < library[row] + 0 { library[row] = $5 }
+    $6 + 0 < plain[row] + 0 { plain[row] = $6 }
+    END {
+        for (i = 1; i <= n; i++)
+            printf "|%s|%s|%s| %5.2f |\n", rows[i], library[rows[i]], plain[rows[i]], library[rows[i]] / plain[rows[i]]
+    }' "$out"/resize-{16,32,48,64}.txt
 
 echo
 echo "Nanoseconds a call for a key's store, best of all runs:"

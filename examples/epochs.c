@@ -6,16 +6,25 @@
 
 #include <inttypes.h>
 #include <stdio.h>
+#include <stdlib.h>
 #include <string.h>
 
+/* An epoch is long for so small a cache, so none is left out after a resize. */
 enum { CLASSES = 400, HOT = 8, STORES = 4, READS = 1000 /* in an epoch */ };
-enum { MOST_K = 64, MOST_C = MOST_K / 2 };
+enum { MOST_K = 64 /* this host has room for no more records */ };
 
-/* Room for the largest cache that this host may have; k and c are what it has now. */
-static uint8_t table[MOST_K * COT_RECORD_BYTES];
-static uint8_t gauge[COT_GAUGE_BYTES];
-static uint8_t lines[MOST_C * COT_LINE_BYTES];
-static size_t k = 4, c = 2;
+/* The cache as it is now: k records and c lines. */
+struct cache {
+    size_t k, c;
+    uint8_t *table, *gauge, *lines;
+};
+
+static struct cache cache;
+
+/* The three buffers, as each call is lent them. */
+#define TABLE(cache) (cache).table, (cache).k * COT_RECORD_BYTES
+#define GAUGE(cache) (cache).gauge, COT_GAUGE_BYTES
+#define LINES(cache) (cache).lines, (cache).c * COT_LINE_BYTES
 
 /* The hits per line that are aimed at: none yet. The most loaded store may have twice the
  * lookups of the least, and three tenths of the target may be missed. */
@@ -24,6 +33,24 @@ enum { IMBALANCE_OVER = 2, IMBALANCE_UNDER = 1, TOLERANCE = 300 };
 
 /* What is counted in an epoch. */
 static uint64_t lookups[STORES], on, off;
+
+/* Buffers for k records and c lines, with any bytes. */
+static int get_buffers(struct cache *of, size_t k, size_t c)
+{
+    of->k = k;
+    of->c = c;
+    of->table = malloc(k * COT_RECORD_BYTES);
+    of->gauge = malloc(COT_GAUGE_BYTES);
+    of->lines = malloc(c ? c * COT_LINE_BYTES : 1);
+    return of->table && of->gauge && of->lines;
+}
+
+static void free_buffers(struct cache *of)
+{
+    free(of->table);
+    free(of->gauge);
+    free(of->lines);
+}
 
 /* The next class to come: three of four pieces are of the HOT classes hot, hot + STORES, .., which
  * all have one store. Without hot classes all come alike. */
@@ -40,29 +67,52 @@ static int sort(uint64_t key)
 {
     uint8_t picture[COT_LINE_BYTES] = {0}, ticket[COT_TICKET_BYTES];
 
-    off += cot_is_off_lines(table, k * COT_RECORD_BYTES, key);
-    uint64_t number = cot_read(table, k * COT_RECORD_BYTES, gauge, sizeof gauge, lines,
-                               c * COT_LINE_BYTES, key, 1, ticket, sizeof ticket);
+    snprintf((char *)picture, sizeof picture, "picture of class %" PRIu64, key);
+    off += cot_is_off_lines(TABLE(cache), key);
+    uint64_t number = cot_read(TABLE(cache), GAUGE(cache), LINES(cache), key, 1, ticket,
+                               sizeof ticket);
     if (cot_is_refused(number))
         return 0;
     if (cot_is_hit(number)) {
         on++;
-        return 1;
+        return memcmp(cache.lines + cot_line(number) * COT_LINE_BYTES, picture,
+                      sizeof picture) == 0;
     }
     lookups[key % STORES]++;
-    snprintf((char *)picture, sizeof picture, "picture of class %" PRIu64, key);
     return !cot_is_wanted(number) ||
-           cot_fill(table, k * COT_RECORD_BYTES, gauge, sizeof gauge, lines, c * COT_LINE_BYTES,
-                    key, picture, sizeof picture, cot_ticket(ticket)) == COT_STORED;
+           cot_fill(TABLE(cache), GAUGE(cache), LINES(cache), key, picture, sizeof picture,
+                    cot_ticket(ticket)) == COT_STORED;
 }
 
-/* A cache of other sizes begins fresh. No fetch is under way here: a host with some drops them. */
+/* Prints the classes whose picture is in a line, by looks, which count for nothing. */
+static void show_pictures(const char *when)
+{
+    uint8_t ticket[COT_TICKET_BYTES];
+
+    printf("%s", when);
+    for (uint64_t key = 0; key < CLASSES; key++)
+        if (cot_is_hit(cot_read(TABLE(cache), GAUGE(cache), LINES(cache), key, 0, ticket,
+                                sizeof ticket)))
+            printf(" %" PRIu64, key);
+}
+
+/* The cache moves to buffers of the sizes that cot_scale told, and the old ones are freed. */
 static int resize(const uint8_t out[COT_SCALE_BYTES])
 {
-    c = cot_number(out);
-    k = cot_number(out + 8);
-    return cot_fresh(table, k * COT_RECORD_BYTES, gauge, sizeof gauge, lines,
-                     c * COT_LINE_BYTES) == COT_DONE;
+    struct cache next;
+
+    show_pictures("    pictures in lines:");
+    if (!get_buffers(&next, cot_number(out + 8), cot_number(out)) ||
+        cot_resize(TABLE(cache), GAUGE(cache), LINES(cache), TABLE(next), GAUGE(next),
+                   LINES(next)) != COT_DONE) {
+        free_buffers(&next);
+        return 0;
+    }
+    free_buffers(&cache);
+    cache = next;
+    show_pictures("; after it:");
+    printf("\n");
+    return 1;
 }
 
 /* The end of an epoch: what has been counted, and what comes of it. */
@@ -71,29 +121,28 @@ static int end_epoch(int epoch)
     uint8_t counts[8 * STORES], out[COT_SCALE_BYTES];
     int good = 1;
 
-    printf("%2d: C %zu, K %zu; lookups", epoch, c, k);
+    printf("%2d: C %zu, K %zu; lookups", epoch, cache.c, cache.k);
     for (int i = 0; i < STORES; i++) {
         cot_put_number(counts + 8 * i, lookups[i]);
         printf(" %" PRIu64, lookups[i]);
     }
     printf("; hits %" PRIu64 " on lines, %" PRIu64 " off", on, off);
-    uint64_t number = cot_scale(counts, sizeof counts, on, off, c, k, IMBALANCE_OVER,
+    uint64_t number = cot_scale(counts, sizeof counts, on, off, cache.c, cache.k, IMBALANCE_OVER,
                                 IMBALANCE_UNDER, target_over, target_under, TOLERANCE, out,
                                 sizeof out);
     if (number == COT_GROW && cot_number(out + 8) > MOST_K)
-        number = COT_STAY; /* this host has no more room */
+        number = COT_STAY;
     if (number == COT_GROW) {
-        good = resize(out);
         target_over = cot_number(out + 16);
         target_under = cot_number(out + 24);
         printf(": grows; target %" PRIu64 " / %" PRIu64 "\n", target_over, target_under);
-    } else if (number == COT_SHRINK) {
         good = resize(out);
+    } else if (number == COT_SHRINK) {
         printf(": shrinks\n");
+        good = resize(out);
     } else if (number == COT_AGE) {
-        good = cot_age(table, k * COT_RECORD_BYTES, gauge, sizeof gauge, lines,
-                       c * COT_LINE_BYTES) == COT_AGED;
         printf(": ages\n");
+        good = cot_age(TABLE(cache), GAUGE(cache), LINES(cache)) == COT_AGED;
     } else {
         good = number == COT_STAY;
         printf(good ? ": stays\n" : ": refused, %" PRIu64 "\n", number);
@@ -105,8 +154,8 @@ static int end_epoch(int epoch)
 
 int main(void)
 {
-    if (cot_fresh(table, k * COT_RECORD_BYTES, gauge, sizeof gauge, lines, c * COT_LINE_BYTES) !=
-        COT_DONE)
+    if (!get_buffers(&cache, 4, 2) ||
+        cot_fresh(TABLE(cache), GAUGE(cache), LINES(cache)) != COT_DONE)
         return 1;
     for (int epoch = 1; epoch <= 16; epoch++) {
         if (epoch == 1)
@@ -121,5 +170,6 @@ int main(void)
         if (!end_epoch(epoch))
             return 1;
     }
+    free_buffers(&cache);
     return 0;
 }

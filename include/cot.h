@@ -13,6 +13,7 @@
  *   store    COT_STORE_BYTES, a 64-bit number as in the gauge, written by cot_store
  *   lookups  1 to COT_MOST_STORES 64-bit numbers as in the gauge, see cot_scale
  *   out      COT_SCALE_BYTES, four 64-bit numbers as in the gauge, written by cot_scale
+ *   to_table, to_gauge, to_lines   a table, a gauge and lines of other sizes, written by cot_resize
  * All that the cache knows is in the first three. The ring and the lookups are the host's own:
  * cot_store reads the one and cot_scale the other, no other call does, and nothing of them is kept.
  *
@@ -22,19 +23,22 @@
  * To start with a fresh cache, call cot_fresh, or set every byte of the table and of the gauge to
  * zero, which is the same. The lines may hold any bytes. From then on lend the same three buffers,
  * whole, to each call but cot_store and cot_scale, which take none of them, and let only the
- * library write to them. The host may read them at any time between calls.
+ * library write to them. Another K or C is for cot_resize, which copies the cache into three other
+ * buffers: from then on lend those. The host may read the three at any time between calls.
  *
  * Use the line of a hit before the next call: any later read of a weight over 0, update, withdrawal
- * or fill may give the line to another key or put another picture into it.
+ * or fill may give the line to another key or put another picture into it, and a resize may give
+ * the key another line.
  *
  * A wanted tells a ticket. Begin the fetch after it, keep the ticket with the fetch, and bring it
  * back to cot_fill with the picture. An update or a withdrawal of the key, or the loss of its line,
  * makes the ticket void. So a picture whose fetch was overtaken is refused, with COT_REFUSED_TICKET
  * where the line is still empty: drop it. After an update it may be the old one: read again, which
  * gives another ticket if the picture is still wanted. A key that was withdrawn need not be read
- * again: a read would track it anew. Several fetches of a class may be under way; the first good
- * fill is stored. A fill that is refused with COT_REFUSED_NO_LINE, COT_REFUSED_FILLED or
- * COT_REFUSED_TICKET after a late fetch is no fault of the host: drop the picture.
+ * again: a read would track it anew. A ticket outlives a resize if the key keeps a line.
+ * Several fetches of a class may be under way; the first good fill is stored. A fill that is
+ * refused with COT_REFUSED_NO_LINE, COT_REFUSED_FILLED or COT_REFUSED_TICKET after a late fetch is
+ * no fault of the host: drop the picture.
  *
  * A fresh start begins the serials, and so the tickets, again: finish or drop the fetches that are
  * under way before it.
@@ -43,7 +47,7 @@
  * library takes no lock. Calls on different buffers may, and so may calls of cot_store on one ring,
  * each with store bytes of its own, while nobody writes to the ring, and calls of cot_scale on the
  * same lookups, each with out bytes of its own. A call takes less than 2 KiB of stack, cot_store
- * less than 12 KiB, and returns.
+ * less than 12 KiB, cot_resize less than 45 KiB, and returns.
  *
  * docs/FORMATS.md has the fields of a record and when a table is in order; a host needs neither.
  *
@@ -78,29 +82,30 @@ extern "C" {
 #define COT_MOST_STORES 64    /* of cot_scale; a ring may have more */
 #define COT_MOST_COUNT 1048576 /* of lookups, of hits, and in each part of a fraction */
 
-/* With a serial of this or more, reads of a weight over 0, updates, fills and withdrawals are
- * refused, and a fresh start is what is left. No host comes to it: with a line taken a billion
+/* With a serial of this or more, reads of a weight over 0, updates, fills, withdrawals and resizes
+ * are refused, and a fresh start is what is left. No host comes to it: with a line taken a billion
  * times a second it would take 292 years. */
 #define COT_MOST_SERIAL UINT64_C(9223372036854775808)
 
 /* Returned by a refused call: 1 to 99, see cot_is_refused. The tests come in this order: sizes;
  * weight or picture; order; serial; no line; filled; ticket. Of cot_store: sizes; ring; doubled. Of
- * cot_scale: sizes; epoch.
+ * cot_scale: sizes; epoch. Of cot_resize: sizes, of the source or the target; the source's order;
+ * its serial.
  * Form and short are the replay program's: no call here returns them. */
 #define COT_REFUSED_SIZES 1   /* table not whole records, K outside 1 to 1,024, lines not whole,
                                  C not under K, gauge bytes not 24, or ticket, sum or store bytes
-                                 not 8; scale: its out bytes not 32, C 0, K not over C, or K over
-                                 1,024 */
+                                 not 8; resize: any of these, of source or target; scale: its out
+                                 bytes not 32, C 0, K not over C, or K over 1,024 */
 #define COT_REFUSED_WEIGHT 2  /* read or update: weight over 65,535; update: weight 0 */
-#define COT_REFUSED_ORDER 3   /* the table is not in order */
+#define COT_REFUSED_ORDER 3   /* the table is not in order; resize: the source's */
 #define COT_REFUSED_PICTURE 4 /* fill: the picture has not 64 bytes */
 #define COT_REFUSED_NO_LINE 5 /* fill: the key is not tracked, or has no line */
 #define COT_REFUSED_FILLED 6  /* fill: the key's line is filled already */
 #define COT_REFUSED_FORM 7    /* replay: a journal record of unknown form */
 #define COT_REFUSED_SHORT 8   /* replay: 1 to 87 bytes left at the journal's end */
 #define COT_REFUSED_TICKET 9  /* fill: the ticket is not the one that the key has now */
-#define COT_REFUSED_SERIAL 10 /* read of a weight over 0, update, fill or withdraw: COT_MOST_SERIAL
-                                 reached */
+#define COT_REFUSED_SERIAL 10 /* read of a weight over 0, update, fill, withdraw or resize:
+                                 COT_MOST_SERIAL reached */
 #define COT_REFUSED_DOUBLED 11 /* store: two points of the ring at one position */
 #define COT_REFUSED_RING 12    /* store: a ring of no point, over 1,024, or not whole points */
 #define COT_REFUSED_EPOCH 13   /* scale: lookups not whole numbers, or not of 1 to 64 stores;
@@ -109,15 +114,15 @@ extern "C" {
                                   tolerance over 999 */
 
 /* Returned by an accepted call. */
-#define COT_DONE 0        /* fresh, levelled sum, store */
+#define COT_DONE 0        /* fresh, levelled sum, store, resize */
 #define COT_AGED 100      /* age */
 #define COT_CHANGED 101   /* update: the key is tracked; a line it had is empty or another's now */
 #define COT_UNKNOWN 102   /* update, withdraw: the key is not tracked; nothing has changed */
 #define COT_STORED 103    /* fill: the picture is in the key's line */
 #define COT_PASSED 104    /* read: the key has no line */
 #define COT_WITHDRAWN 105 /* withdraw: the key is not tracked any more */
-#define COT_GROW 106      /* scale: twice the lines and records, and a new target */
-#define COT_SHRINK 107    /* scale: half the lines and records */
+#define COT_GROW 106      /* scale: twice the lines and records, see cot_resize, and a new target */
+#define COT_SHRINK 107    /* scale: half the lines and records, see cot_resize */
 #define COT_AGE 108       /* scale: the heats should be halved, see cot_age */
 #define COT_STAY 109      /* scale: nothing is to be done */
 #define COT_HIT 2000      /* read: COT_HIT + n, the key's picture is in line n */
@@ -176,7 +181,10 @@ uint64_t cot_age(uint8_t *table, size_t table_len, uint8_t *gauge, size_t gauge_
                  const uint8_t *lines, size_t lines_len);
 
 /* Puts the levelled sum into the 8 bytes of sum: over all K records, the larger of heat and
- * ceiling. A refused call leaves them. From a fresh start on the sum is at most the total.
+ * ceiling. A refused call leaves them. From a fresh start on the sum is at most the total, if K is
+ * the smallest record count F that the cache has had since then. Where a resize has made the table
+ * larger than that, the sum over all K records may exceed the total. What is then at most the total
+ * is the sum over any F of the records, and F times the ceiling.
  * Returns COT_DONE; refused: sizes, order. */
 uint64_t cot_levelled_sum(const uint8_t *table, size_t table_len, const uint8_t *gauge,
                           size_t gauge_len, const uint8_t *lines, size_t lines_len, uint8_t *sum,
@@ -224,13 +232,46 @@ uint64_t cot_store(const uint8_t *ring, size_t ring_len, uint64_t position, uint
  * Where it writes nothing, and where it is refused, the bytes stay. Stores without lookups beside
  * one that has some are over any imbalance; if none has any, that is within it. An epoch of at most
  * COT_MOST_COUNT reads keeps all counts in bounds.
- * To grow or shrink, start a fresh cache of the new sizes, and leave some epochs out until it is
- * warm; for an aging call cot_age. All answers but a grow keep the target.
+ * To grow or shrink, lend cot_resize a target with the new C lines and K records, and leave some
+ * epochs out, until the lines and records that are new have filled; for an aging call cot_age. All
+ * answers but a grow keep the target.
  * Refused: sizes, epoch. */
 uint64_t cot_scale(const uint8_t *lookups, size_t lookups_len, uint64_t on, uint64_t off,
                    uint64_t lines, uint64_t records, uint64_t imbalance_over,
                    uint64_t imbalance_under, uint64_t target_over, uint64_t target_under,
                    uint64_t tolerance, uint8_t *out, size_t out_len);
+
+/* Copies a cache into other buffers, of another K and C or of the same. The source is the table,
+ * the gauge and the lines that the cache has now, and is only read. The target is to_table,
+ * to_gauge and to_lines: their lengths tell the new K and C, they may hold any bytes, and they must
+ * not overlap each other or the source.
+ *   - If more keys are on lines than there will be lines, the coldest lose theirs, of equally cold
+ *     ones the first in the table.
+ *   - Then, if more keys are tracked than there will be records, the surplus is dropped, one after
+ *     another, each time the one that cot_read would evict. The ceiling rises to the heat of the
+ *     hottest of them, if that is higher. A dropped key is not tracked any more: a read tracks it
+ *     anew.
+ *   - The records that are kept come first in the target's table, in their old order; the rest are
+ *     free. Each kept key on a line gets the next line number in that order, with the 64 bytes of
+ *     its line, its ticket, and filled or empty as before. Line bytes beyond those stay.
+ *   - The lines that are left, lowest first, go to the hottest tracked keys without one, of equally
+ *     hot ones to the first in the table. They are empty and have new tickets: a read or a look of
+ *     those keys tells wanted. If no such key is left, the other lines are unused.
+ * Total and serial are those of the source, but each new ticket adds 1 to the serial: at most 1,023
+ * in one call. If it comes to COT_MOST_SERIAL by that, later calls that need it are refused.
+ * After COT_DONE lend the target, in the source's place, to every later call: what is promised then
+ * holds for it, with all that came before the resize, and for the source no more. The source's
+ * buffers may be freed, or be the target of a later resize.
+ * A line number from before a resize is void, even where K and C stay: read or look again. A fetch
+ * that is under way goes on: if its key keeps a line, cot_fill takes the ticket. If the key has
+ * lost its line or was dropped, the fill is refused.
+ * A refusal leaves source and target; after COT_REFUSED_ORDER or COT_REFUSED_SERIAL start fresh.
+ * The call passes over the table up to some 2,000 times, which takes up to some 2 milliseconds at
+ * 1,024 records, and takes less than 45 KiB of stack, for a copy of the table.
+ * Returns COT_DONE; refused: sizes, order, serial. */
+uint64_t cot_resize(const uint8_t *table, size_t table_len, const uint8_t *gauge, size_t gauge_len,
+                    const uint8_t *lines, size_t lines_len, uint8_t *to_table, size_t to_table_len,
+                    uint8_t *to_gauge, size_t to_gauge_len, uint8_t *to_lines, size_t to_lines_len);
 
 /* 1 if the returned number is that of a refused call, else 0. */
 static inline int cot_is_refused(uint64_t number)

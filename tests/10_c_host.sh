@@ -1,7 +1,7 @@
 #!/bin/sh
 # The C host: the header as C and as C++, examples/host.c, examples/stores.c and examples/epochs.c,
 # and document 01's sample calls with the edges, looks, tickets, withdrawals, equals, stores, epochs,
-# fresh and levelled sums.
+# resizes, fresh and levelled sums.
 set -eu
 cd "$(dirname "$0")/.."
 

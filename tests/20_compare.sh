@@ -70,9 +70,36 @@ fault scale-falls-through 'random epoch [0-9]*: difference: returned 109, the mo
 fault scale-zero-least-within 'random epoch [0-9]*: difference: returned 10[69], the model 10[789]'
 # The other one of two refusals.
 fault scale-sizes-last 'random epoch [0-9]*: difference: returned 1, the model 13$'
+# What differs first in the target of a resize.
+target="resize.* difference: target's"
+# Other records are kept, by their heats or by their slacks.
+fault sizes-hottest-dropped "$target table byte [0-9]* (record [0-9]*, key) is "
+fault sizes-victims-by-heat "single $target table byte [0-9]* (record [0-9]*, key) is "
+# Another ceiling, in a list too, and nothing else.
+fault sizes-ceiling-left "list.* $target gauge byte \([89]\|1[0-5]\) is [^;]*$"
+fault sizes-ceiling-to-first "list.* $target gauge byte \([89]\|1[0-5]\) is [^;]*$"
+# Other states: other line numbers, filled for empty, other records on lines.
+fault sizes-old-numbers "single $target table byte [0-9]* (record [0-9]*, state) is "
+fault sizes-spare-filled "$target table byte [0-9]* (record [0-9]*, state) is 0x02, .* 0x03 "
+fault sizes-coldest-last "single $target table byte [0-9]* (record [0-9]*, state) is "
+fault sizes-hottest-last "$target table byte [0-9]* (record [0-9]*, state) is "
+# Other tickets.
+fault sizes-tickets-renewed "single $target table byte [0-9]* (record [0-9]*, ticket) is "
+# Other bytes of lines, and nothing else.
+fault sizes-lines-not-copied "single $target lines byte [0-9]* is [^;]*$"
+fault sizes-copied-by-new-number "single $target lines byte [0-9]* is [^;]*$"
+# A resize that the library refuses and the model does not, and the other one of two refusals.
+fault sizes-serial-if-given 'single resize.* difference: returned 10, the model 0; '
+fault sizes-target-last 'resize.* difference: returned 1, the model \(3\|10\)$'
+# Bytes behind the kept records.
+fault sizes-rest-kept "$target table byte [0-9]* (record [0-9]*, key) is 0x00, "
 echo "20_compare: no difference; the deliberate faults admit-equal, fresh-keeps, sum-heat," \
     "look-warms, keeps-ticket, ticket-on-hit, any-ticket, free-takes-line, victim-by-heat," \
     "victim-least-slack, victim-low-half, coldest-by-slack, ring-key-minus-point, ring-no-wrap," \
     "ring-low-half, ring-largest, ring-doubled-first, ring-neighbours-only, scale-strict-average," \
     "scale-new-lines-in-target, scale-target-reduced, scale-halved-down, scale-tolerance-added," \
-    "scale-falls-through, scale-zero-least-within and scale-sizes-last are found"
+    "scale-falls-through, scale-zero-least-within, scale-sizes-last, sizes-hottest-dropped," \
+    "sizes-victims-by-heat, sizes-ceiling-left, sizes-ceiling-to-first, sizes-old-numbers," \
+    "sizes-spare-filled, sizes-coldest-last, sizes-hottest-last, sizes-tickets-renewed," \
+    "sizes-lines-not-copied, sizes-copied-by-new-number, sizes-serial-if-given, sizes-target-last" \
+    "and sizes-rest-kept are found"

@@ -1,5 +1,6 @@
 /* sample.c: document 01's thirteen sample calls, the edges for K = 3, C = 1, document 02's looks,
- * tickets, withdrawals, equals, stores and epochs, fresh, levelled sums and the helpers of cot.h.
+ * tickets, withdrawals, equals, stores, epochs and resizes, fresh, levelled sums and the helpers of
+ * cot.h.
  *
  * Prints each returned number, with the line of a hit or a wanted and the ticket of a wanted, and
  * the gauge after the call. A refused call must leave all lent memory as it was, and a read that
@@ -10,7 +11,7 @@
 #include <stdio.h>
 #include <string.h>
 
-enum { K = 3, C = 1, MOST = COT_RECORD_BYTES * (COT_MOST_RECORDS + 1) };
+enum { K = 3, C = 1, MOST = COT_LINE_BYTES * COT_MOST_RECORDS };
 
 /* The lent buffers, each with room for lengths that are too large. */
 static uint8_t table[MOST], gauge[MOST], lines[MOST], picture[MOST], ticket[MOST], sum[MOST];
@@ -119,6 +120,15 @@ static int ticket_kept(void)
     return memcmp(before[5], ticket, MOST) == 0;
 }
 
+/* 1 if a line has the bytes of the picture. */
+static int in_a_line(void)
+{
+    for (size_t at = 0; at < lines_len; at += COT_LINE_BYTES)
+        if (memcmp(lines + at, picture, COT_LINE_BYTES) == 0)
+            return 1;
+    return 0;
+}
+
 /* Prints what a call came to, with what more there is to say of it. */
 static void show(const char *name, uint64_t number, const char *more)
 {
@@ -133,7 +143,7 @@ static void show(const char *name, uint64_t number, const char *more)
            number_at(gauge + 8), number_at(gauge + 16), more);
     if (cot_is_refused(number))
         printf(", memory %s", three_kept() && sum_kept() ? "as it was" : "CHANGED");
-    if (number == COT_STORED && memcmp(lines, picture, COT_LINE_BYTES) != 0)
+    if (number == COT_STORED && !in_a_line())
         printf(", LINE NOT FILLED");
     if (memcmp(before[3], picture, MOST) != 0)
         printf(", PICTURE CHANGED");
@@ -228,15 +238,19 @@ static void call_sum(const char *name)
     show(name, number, more);
 }
 
+static void show_record(const uint8_t *of, size_t place)
+{
+    const uint8_t *record = of + COT_RECORD_BYTES * place;
+    printf("record %zu: key %" PRIu64 ", heat %" PRIu64 ", slack %" PRIu64 ", state %" PRIu64
+           ", ticket %" PRIu64 "\n",
+           place, number_at(record), number_at(record + 8), number_at(record + 16),
+           number_at(record + 24), number_at(record + 32));
+}
+
 static void show_records(void)
 {
-    for (int i = 0; i < K; i++) {
-        const uint8_t *record = table + COT_RECORD_BYTES * i;
-        printf("record %d: key %" PRIu64 ", heat %" PRIu64 ", slack %" PRIu64 ", state %" PRIu64
-               ", ticket %" PRIu64 "\n",
-               i, number_at(record), number_at(record + 8), number_at(record + 16),
-               number_at(record + 24), number_at(record + 32));
-    }
+    for (size_t i = 0; i < K; i++)
+        show_record(table, i);
 }
 
 static void thirteen_calls(void)
@@ -957,6 +971,306 @@ static void epochs(void)
     call_scale("1,048,577 lookups");
 }
 
+/* The target of a resize. */
+static uint8_t to_table[MOST], to_gauge[MOST], to_lines[MOST];
+static size_t to_table_len, to_gauge_len, to_lines_len;
+
+/* Other bytes in each line, none of them the picture's. */
+static void mark_lines(void)
+{
+    for (size_t i = 0; i < lines_len; i++) {
+        size_t n = i / COT_LINE_BYTES, at = i % COT_LINE_BYTES;
+        lines[i] = (uint8_t)(at == 0 ? n / 256 + 0x80 : n + at);
+    }
+}
+
+/* A source of so many records and lines, fresh. */
+static void source(size_t k, size_t c)
+{
+    fresh();
+    table_len = COT_RECORD_BYTES * k;
+    lines_len = COT_LINE_BYTES * c;
+    mark_lines();
+}
+
+static void target(size_t k, size_t c)
+{
+    to_table_len = COT_RECORD_BYTES * k;
+    to_gauge_len = COT_GAUGE_BYTES;
+    to_lines_len = COT_LINE_BYTES * c;
+}
+
+/* 1 if the target's bytes from these on are those that it had before. */
+static int target_kept(size_t table_from, size_t gauge_from, size_t lines_from)
+{
+    int kept = 1;
+    for (size_t i = 0; i < MOST; i++)
+        kept &= (i < table_from || to_table[i] == 0xc1) &&
+                (i < gauge_from || to_gauge[i] == 0xc2) && (i < lines_from || to_lines[i] == 0xc3);
+    return kept;
+}
+
+/* Prints which of the source's lines a line of the target is like. */
+static void show_line(size_t n)
+{
+    const uint8_t *line = to_lines + COT_LINE_BYTES * n;
+    for (size_t at = 0; at < lines_len; at += COT_LINE_BYTES)
+        if (memcmp(lines + at, line, COT_LINE_BYTES) == 0) {
+            printf("line %zu: as line %zu was\n", n, at / COT_LINE_BYTES);
+            return;
+        }
+    printf("line %zu: %s\n", n,
+           target_kept(MOST, MOST, COT_LINE_BYTES * n) ? "untouched" : "OTHER BYTES");
+}
+
+/* Prints what is returned, the target's gauge, its first records and lines if there are some, and
+ * what has become of the lent bytes. */
+static void call_resize(const char *name)
+{
+    enum { SHOWN = 4 };
+    keep();
+    memset(to_table, 0xc1, MOST);
+    memset(to_gauge, 0xc2, MOST);
+    memset(to_lines, 0xc3, MOST);
+    uint64_t number = cot_resize(LENT, lent(to_table, to_table_len), to_table_len,
+                                 lent(to_gauge, to_gauge_len), to_gauge_len,
+                                 lent(to_lines, to_lines_len), to_lines_len);
+    int done = number == COT_DONE;
+    printf("%s: %" PRIu64, name, number);
+    if (done)
+        printf(", total %" PRIu64 ", ceiling %" PRIu64 ", serial %" PRIu64, number_at(to_gauge),
+               number_at(to_gauge + 8), number_at(to_gauge + 16));
+    printf(", source %s", three_kept() && sum_kept() ? "as it was" : "CHANGED");
+    if (done)
+        printf("%s\n", target_kept(to_table_len, to_gauge_len, to_lines_len)
+                           ? ""
+                           : ", BYTES PAST A LENGTH CHANGED");
+    else
+        printf(", target %s\n", target_kept(0, 0, 0) ? "as it was" : "CHANGED");
+    for (size_t i = 0; done && i < to_table_len / COT_RECORD_BYTES && i < SHOWN; i++)
+        show_record(to_table, i);
+    for (size_t i = 0; done && i < to_lines_len / COT_LINE_BYTES && i < SHOWN; i++)
+        show_line(i);
+}
+
+/* From now on the target is lent in the source's place. */
+static void move(void)
+{
+    memcpy(table, to_table, MOST);
+    memcpy(gauge, to_gauge, MOST);
+    memcpy(lines, to_lines, MOST);
+    table_len = to_table_len;
+    lines_len = to_lines_len;
+}
+
+static void resizes(void)
+{
+    /* Grow: the picture stays, and the new line goes to the hottest without one. */
+    source(3, 1);
+    call_read("a line taken", 5, 9);
+    call_fill("its fill", 5, 1);
+    call_read("7 without a line", 7, 4);
+    call_read("9 without a line", 9, 6);
+    target(4, 2);
+    call_resize("grow to K = 4, C = 2");
+    move();
+    call_read("5 is a hit", 5, 1);
+    call_look("9 is wanted", 9);
+    call_fill("its fill", 9, 2);
+    call_read("11 tracked", 11, 1);
+
+    /* Shrink: the colder loses its line, the coldest two are dropped, and the ceiling rises. */
+    target(2, 1);
+    call_resize("shrink to K = 2, C = 1");
+    move();
+    call_look("5 is a hit", 5);
+    call_fill("fill of 9, without a line", 9, 2);
+    call_look("look at 7, dropped", 7);
+    call_read("11 is tracked anew, 9 evicted", 11, 1);
+
+    /* "the sum over any that many records": over all of more it may exceed the total. */
+    call_sum("levelled sum before a grow");
+    target(4, 2);
+    call_resize("grow to K = 4, C = 2 again");
+    move();
+    call_sum("levelled sum after it, over the total");
+
+    /* The same sizes: what is kept is packed, with the next line numbers. */
+    source(3, 2);
+    put_gauge(9, 0);
+    put_serial(9);
+    put_record(0, 5, 4, 0, 5);
+    put_ticket(0, 8);
+    put_record(2, 7, 3, 0, 2);
+    put_ticket(2, 9);
+    target(3, 2);
+    call_resize("the same sizes");
+    move();
+    call_look("5 is on line 0 now", 5);
+    call_look("7 on line 1, still empty", 7);
+    call_fill("the fetch of 7 that is under way", 7, 9);
+
+    /* A fetch under way of a class that loses its line, and then its record. */
+    source(3, 2);
+    call_read("5 takes line 0", 5, 3);
+    call_read("7 takes line 1", 7, 4);
+    target(2, 1);
+    call_resize("5 loses its line");
+    move();
+    call_fill("the fetch of 5", 5, 1);
+    call_fill("the fetch of 7", 7, 2);
+    target(1, 0);
+    call_resize("no lines, 5 is dropped");
+    move();
+    call_fill("the fetch of 5 again", 5, 1);
+    call_read("5 tracked anew, 7 evicted", 5, 1);
+
+    /* "the coldest lose them, first among equals" */
+    source(4, 3);
+    put_gauge(12, 0);
+    put_record(0, 5, 4, 0, 7);
+    put_record(1, 7, 3, 0, 3);
+    put_record(2, 9, 3, 0, 5);
+    target(3, 2);
+    call_resize("one line less, 7 loses it");
+    target(2, 1);
+    call_resize("two lines less, 7 and 9 lose them, 7 is dropped");
+    target(1, 0);
+    call_resize("no lines, 5 is left");
+
+    /* "victims of the Ask 5 order go": the coldest, then the largest slack, then the first. */
+    source(4, 0);
+    put_gauge(20, 3);
+    put_record(0, 12, 5, 1, 1);
+    put_record(1, 11, 5, 3, 1);
+    put_record(2, 13, 5, 3, 1);
+    put_record(3, 14, 4, 0, 1);
+    target(3, 0);
+    call_resize("14 is dropped");
+    target(2, 0);
+    call_resize("14 and 11 are dropped, ceiling 5");
+    target(1, 0);
+    call_resize("14, 11 and 13 are dropped");
+    put_gauge(20, 7);
+    call_resize("ceiling 7 is higher");
+
+    /* Lines lowest first, to the hottest, first among equals; a line is left. */
+    source(4, 0);
+    put_gauge(20, 0);
+    put_serial(7);
+    put_record(1, 5, 4, 0, 1);
+    put_record(2, 7, 6, 2, 1);
+    put_record(3, 9, 6, 0, 1);
+    target(5, 2);
+    call_resize("two spare lines");
+    target(5, 4);
+    call_resize("four spare lines");
+    move();
+    call_read("11 takes the line that is left", 11, 1);
+
+    /* The serial passes its limit on the way. */
+    put_serial(COT_MOST_SERIAL - 1);
+    lines_len = 0;
+    for (int i = 0; i < 4; i++) {
+        put(table + COT_RECORD_BYTES * i + 24, 1);
+        put_ticket(i, 0);
+    }
+    target(5, 2);
+    call_resize("serial 2^63 - 1, two spare lines");
+    move();
+    call_look("look", 7);
+    call_read("read", 7, 1);
+    call_fill("fill", 7, COT_MOST_SERIAL);
+    call_resize("serial 2^63 + 1, resize");
+    put_serial(UINT64_MAX);
+    call_resize("serial 2^64 - 1, resize");
+    put_serial(COT_MOST_SERIAL);
+    call_resize("serial 2^63, resize");
+    put_serial(COT_MOST_SERIAL - 1);
+    mark_lines();
+    call_resize("serial 2^63 - 1, no spare line");
+
+    /* The largest. */
+    source(1024, 1023);
+    put_gauge(2000, 0);
+    for (int i = 0; i < 1024; i++)
+        put_record(i, 1 + i, 1 + i, 0, i < 1023 ? 3 + 2 * i : 1);
+    target(1, 0);
+    call_resize("K = 1,024, C = 1,023 to K = 1");
+    target(1024, 1);
+    call_resize("to C = 1");
+    source(1, 0);
+    target(1024, 1023);
+    call_resize("a fresh K = 1 to K = 1,024, C = 1,023");
+}
+
+/* A source in order, with a serial that is spent or not, and a good target. */
+static void good(uint64_t serial)
+{
+    source(3, 1);
+    put_gauge(4, 0);
+    put_serial(serial);
+    put_record(0, 5, 4, 0, 3);
+    target(4, 2);
+}
+
+/* Each wrong length of a resize, one at a time. */
+static void wrong_lengths(const char *name)
+{
+    static const struct {
+        const char *what;
+        size_t *len, wrong;
+    } lengths[] = {
+        {"source, table of 0 bytes", &table_len, 0},
+        {"source, table of 119 bytes", &table_len, 119},
+        {"source, table of 41000 bytes", &table_len, 41000},
+        {"source, K = 1 with one line", &table_len, 40},
+        {"source, gauge of 0 bytes", &gauge_len, 0},
+        {"source, gauge of 23 bytes", &gauge_len, 23},
+        {"source, lines of 63 bytes", &lines_len, 63},
+        {"source, three lines", &lines_len, 192},
+        {"target, table of 0 bytes", &to_table_len, 0},
+        {"target, table of 159 bytes", &to_table_len, 159},
+        {"target, table of 41000 bytes", &to_table_len, 41000},
+        {"target, K = 2 with two lines", &to_table_len, 80},
+        {"target, gauge of 0 bytes", &to_gauge_len, 0},
+        {"target, gauge of 25 bytes", &to_gauge_len, 25},
+        {"target, lines of 65 bytes", &to_lines_len, 65},
+        {"target, four lines", &to_lines_len, 256},
+    };
+    for (size_t i = 0; i < sizeof lengths / sizeof *lengths; i++) {
+        size_t own = *lengths[i].len;
+        *lengths[i].len = lengths[i].wrong;
+        call_resize(of(name, lengths[i].what));
+        *lengths[i].len = own;
+    }
+}
+
+static void refused_resizes(void)
+{
+    good(0);
+    wrong_lengths("resize");
+    put_gauge(4, 5);
+    call_resize("resize, ceiling over total");
+    put_gauge(COT_MOST_TOTAL + UINT64_C(1), 0);
+    call_resize("resize, total 4294967296");
+    put_gauge(4, 0);
+    put_record(1, 7, 4, 0, 5);
+    call_resize("resize, a line that only the target has");
+    put_record(1, 7, 4, 0, 3);
+    call_resize("resize, two records on one line");
+    put_record(1, 7, 4, 0, 1);
+    put_ticket(1, 1);
+    call_resize("resize, ticket without a line");
+    good(COT_MOST_SERIAL);
+    call_resize("resize, serial spent");
+
+    /* The order of the tests. */
+    put_gauge(4, 5);
+    wrong_lengths("resize, not in order, serial spent");
+    call_resize("resize, order before serial");
+}
+
 /* What the helpers of cot.h say of a number. */
 static void helpers(void)
 {
@@ -1016,6 +1330,8 @@ int main(void)
     order_of_tests();
     stores();
     epochs();
+    resizes();
+    refused_resizes();
     helpers();
     return 0;
 }

@@ -59,7 +59,7 @@ pub const ANSWERS: [&str; 39] = [
 ];
 
 /// Every part of cause 1.
-const SIZES: [&str; 5] = [
+pub const SIZES: [&str; 5] = [
     "1: table not whole records",
     "1: K outside 1 to 1,024",
     "1: lines not whole",
@@ -68,7 +68,7 @@ const SIZES: [&str; 5] = [
 ];
 
 /// Every part of cause 3.
-const ORDER: [&str; 7] = [
+pub const ORDER: [&str; 7] = [
     "3: total over L",
     "3: ceiling over total",
     "3: a heat over total",
@@ -388,7 +388,7 @@ pub fn every_length(seed: u64, model: &Model) -> Result<u64, String> {
 
 /// A table and a gauge of these lengths, in order where the lengths are good, and not zero: heats
 /// below and above the ceiling, and no record on a line.
-fn in_order_of(table: usize, gauge: usize) -> (Vec<u8>, Vec<u8>) {
+pub fn in_order_of(table: usize, gauge: usize) -> (Vec<u8>, Vec<u8>) {
     let records: Vec<Record> = (0..=table as u64 / RECORD_BYTES as u64)
         .map(|place| Record {
             key: place,
@@ -853,7 +853,7 @@ fn count_victims(case: &Case, path: &Path, counts: &mut Counts) {
     }
 }
 
-fn doubled(mut numbers: Vec<u64>) -> bool {
+pub fn doubled(mut numbers: Vec<u64>) -> bool {
     numbers.sort_unstable();
     numbers.windows(2).any(|pair| pair[0] == pair[1])
 }
@@ -939,13 +939,13 @@ fn damaged(random: &mut Random) -> Case {
     }
 }
 
-fn flip(bytes: &mut [u8], random: &mut Random) {
+pub fn flip(bytes: &mut [u8], random: &mut Random) {
     let at = random.place(bytes.len());
     bytes[at] ^= 1 << random.below(8);
 }
 
 /// A total in order, often where a read must age or just not.
-fn good_total(random: &mut Random) -> u64 {
+pub fn good_total(random: &mut Random) -> u64 {
     match random.below(20) {
         0 => 0,
         1 => 1,
@@ -961,7 +961,7 @@ fn good_total(random: &mut Random) -> u64 {
 }
 
 /// A serial, often at and around the limit of cause 10. Any is in order.
-fn some_serial(random: &mut Random) -> u64 {
+pub fn some_serial(random: &mut Random) -> u64 {
     let limit = SERIAL_LIMIT;
     match random.below(20) {
         0 => 0,
@@ -974,7 +974,7 @@ fn some_serial(random: &mut Random) -> u64 {
 }
 
 /// Gives the records on lines their tickets: as after a list of calls, or any; 0 among them.
-fn give_tickets(records: &mut [Record], serial: u64, random: &mut Random) {
+pub fn give_tickets(records: &mut [Record], serial: u64, random: &mut Random) {
     let any = random.chance(30);
     for record in records.iter_mut().filter(|r| r.line().is_some()) {
         record.ticket = match random.below(12) {
@@ -989,7 +989,7 @@ fn give_tickets(records: &mut [Record], serial: u64, random: &mut Random) {
 }
 
 /// The keys of a case: more than the table holds, with 0, 2^64 - 1 and keys that share 32 bits.
-fn some_keys(k: usize, random: &mut Random) -> Vec<u64> {
+pub fn some_keys(k: usize, random: &mut Random) -> Vec<u64> {
     let mut keys = vec![0, u64::MAX];
     let base = random.next();
     for number in 0..(k as u64 + k as u64 / 2 + 2) {
@@ -1008,7 +1008,7 @@ fn some_keys(k: usize, random: &mut Random) -> Vec<u64> {
 }
 
 /// Records in order, in part with doubled keys and lines, without tickets.
-fn good_records(
+pub fn good_records(
     k: usize,
     c: usize,
     total: u64,
@@ -1267,7 +1267,7 @@ fn some_weight(random: &mut Random) -> u64 {
 }
 
 /// One damage to the numbers. Some of them leave the table in order.
-fn damage(records: &mut [Record], gauge: &mut [u8], c: usize, total: u64, random: &mut Random) {
+pub fn damage(records: &mut [Record], gauge: &mut [u8], c: usize, total: u64, random: &mut Random) {
     let c = c as u64;
     let place = match random.below(4) {
         0 => 0,

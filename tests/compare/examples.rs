@@ -207,15 +207,15 @@ pub const EXAMPLES: [Example; 52] = [
 ];
 
 /// The memory and, for a list from fresh, the replay.
-struct Desk<'a> {
-    both: Both<'a>,
-    replay: Option<Replay>,
-    random: Random,
+pub struct Desk<'a> {
+    pub both: Both<'a>,
+    pub replay: Option<Replay>,
+    pub random: Random,
 }
 
 impl<'a> Desk<'a> {
     /// Any bytes at all, for K and C that may be wrong.
-    fn dirty(model: &'a Model, seed: u64, k: usize, c: usize) -> Desk<'a> {
+    pub fn dirty(model: &'a Model, seed: u64, k: usize, c: usize) -> Desk<'a> {
         let mut random = Random::new(seed, 5, k as u64);
         Desk {
             both: Both::new(model, Memory::dirty(k, c, &mut random)),
@@ -224,15 +224,15 @@ impl<'a> Desk<'a> {
         }
     }
 
-    fn fresh(model: &'a Model, seed: u64, k: usize, c: usize) -> Result<Desk<'a>, String> {
+    pub fn fresh(model: &'a Model, seed: u64, k: usize, c: usize) -> Result<Desk<'a>, String> {
         let mut desk = Desk::dirty(model, seed, k, c);
         desk.gives(0, Call::Fresh)?;
-        desk.replay = Some(Replay::default());
+        desk.replay = Some(Replay::new(k));
         Ok(desk)
     }
 
     /// K and C as given, and these numbers.
-    fn with(
+    pub fn with(
         model: &'a Model,
         seed: u64,
         (total, ceiling, serial): (u64, u64, u64),
@@ -248,7 +248,7 @@ impl<'a> Desk<'a> {
     }
 
     /// Makes the call on both; the number must be the one given.
-    fn gives(&mut self, number: u64, call: Call) -> Result<(), String> {
+    pub fn gives(&mut self, number: u64, call: Call) -> Result<(), String> {
         let serial = number_at(self.both.librarys.gauge.bytes(), 16);
         let found = self.both.call(&call, &mut self.random, &mut Path::new())?;
         if found != number {
@@ -295,7 +295,7 @@ impl<'a> Desk<'a> {
     }
 
     /// The levelled sum must be as given.
-    fn sum(&mut self, due: u64) -> Result<(), String> {
+    pub fn sum(&mut self, due: u64) -> Result<(), String> {
         self.gives(0, Call::LevelledSum)?;
         let found = number_at(self.both.librarys.sum.bytes(), 0);
         if found != due {
@@ -305,7 +305,7 @@ impl<'a> Desk<'a> {
     }
 
     /// The gauge must be as given.
-    fn gauge(&self, total: u64, ceiling: u64, serial: u64) -> Result<(), String> {
+    pub fn gauge(&self, total: u64, ceiling: u64, serial: u64) -> Result<(), String> {
         let found = gauge_of(self.both.librarys.gauge.bytes());
         let due = (total, ceiling, serial);
         if found != due {
@@ -334,7 +334,7 @@ impl<'a> Desk<'a> {
     }
 
     /// The record at a place must be as given.
-    fn record(&self, place: usize, due: Record) -> Result<(), String> {
+    pub fn record(&self, place: usize, due: Record) -> Result<(), String> {
         let found = records_of(self.both.librarys.table.bytes())[place];
         if found != due {
             return Err(format!("record {place} is {found:?}, and {due:?} is due"));
@@ -343,7 +343,7 @@ impl<'a> Desk<'a> {
     }
 
     /// The true heat of a key must be as given.
-    fn true_heat(&self, key: u64, due: u64) -> Result<(), String> {
+    pub fn true_heat(&self, key: u64, due: u64) -> Result<(), String> {
         let found = self
             .replay
             .as_ref()
@@ -356,13 +356,13 @@ impl<'a> Desk<'a> {
     }
 
     /// Makes the call; the answer must be wanted on line 0 with the ticket given.
-    fn wanted(&mut self, ticket: u64, call: Call) -> Result<(), String> {
+    pub fn wanted(&mut self, ticket: u64, call: Call) -> Result<(), String> {
         self.gives(4_000, call)?;
         self.told(ticket)
     }
 
     /// The call before must have told the ticket given.
-    fn told(&self, due: u64) -> Result<(), String> {
+    pub fn told(&self, due: u64) -> Result<(), String> {
         let found = self.both.told();
         if found != due {
             return Err(format!("ticket {found} is told, and {due} is due"));
@@ -371,7 +371,7 @@ impl<'a> Desk<'a> {
     }
 
     /// A look must give the number and change nothing.
-    fn look(&mut self, number: u64, key: u64) -> Result<(), String> {
+    pub fn look(&mut self, number: u64, key: u64) -> Result<(), String> {
         let before = self.both.librarys.clone();
         self.gives(number, read(key, 0))?;
         if self.both.librarys.three() != before.three() {
@@ -392,20 +392,20 @@ impl<'a> Desk<'a> {
     }
 }
 
-fn read(key: u64, weight: u64) -> Call {
+pub fn read(key: u64, weight: u64) -> Call {
     Call::Read { key, weight }
 }
 
-fn update(key: u64, weight: u64) -> Call {
+pub fn update(key: u64, weight: u64) -> Call {
     Call::Update { key, weight }
 }
 
-fn withdraw(key: u64) -> Call {
+pub fn withdraw(key: u64) -> Call {
     Call::Withdraw { key }
 }
 
 /// A picture of the key, and of the ticket that it was fetched for.
-fn fill(key: u64, ticket: u64) -> Call {
+pub fn fill(key: u64, ticket: u64) -> Call {
     let picture = (0..64).map(|byte| byte + key as u8 + ticket as u8 % 16);
     Call::Fill {
         key,
@@ -415,11 +415,11 @@ fn fill(key: u64, ticket: u64) -> Call {
 }
 
 /// A record without a line.
-fn plain(key: u64, heat: u64, slack: u64) -> Record {
+pub fn plain(key: u64, heat: u64, slack: u64) -> Record {
     record(key, heat, slack, 1, 0)
 }
 
-fn record(key: u64, heat: u64, slack: u64, state: u64, ticket: u64) -> Record {
+pub fn record(key: u64, heat: u64, slack: u64, state: u64, ticket: u64) -> Record {
     Record {
         key,
         heat,
@@ -430,7 +430,7 @@ fn record(key: u64, heat: u64, slack: u64, state: u64, ticket: u64) -> Record {
 }
 
 /// The document's journal, with the number of each answer, the total, the ceiling and the serial.
-fn rows() -> [(Call, u64, (u64, u64, u64)); 13] {
+pub fn rows() -> [(Call, u64, (u64, u64, u64)); 13] {
     [
         (read(5, 3), 4_000, (3, 0, 1)),
         (fill(5, 1), 103, (3, 0, 1)),

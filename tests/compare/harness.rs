@@ -98,6 +98,20 @@ extern "C" {
         out: *mut u8,
         out_len: usize,
     ) -> u64;
+    fn cot_resize(
+        table: *const u8,
+        table_len: usize,
+        gauge: *const u8,
+        gauge_len: usize,
+        lines: *const u8,
+        lines_len: usize,
+        to_table: *mut u8,
+        to_table_len: usize,
+        to_gauge: *mut u8,
+        to_gauge_len: usize,
+        to_lines: *mut u8,
+        to_lines_len: usize,
+    ) -> u64;
 }
 
 /// Guard bytes before (at the least) and after each lent buffer.
@@ -277,6 +291,11 @@ impl<'a> Both<'a> {
         before
     }
 
+    /// The model that the calls are compared with.
+    pub fn model(&self) -> &'a Model {
+        self.model
+    }
+
     /// The serial in the library's gauge.
     pub fn serial(&self) -> u64 {
         gauge_of(self.librarys.gauge.bytes()).2
@@ -338,6 +357,54 @@ impl<'a> Both<'a> {
             describe(&before, call)
         ))
     }
+}
+
+/// Resizes the library's source into its target and the model's into its own, and compares the
+/// returned number and every byte, lent and guard, of all. Gives the number, or what differs.
+pub fn resize(source: &mut Both, target: &mut Both, path: &mut Path) -> Result<u64, String> {
+    let before = (source.librarys.clone(), target.librarys.clone());
+    let (table, gauge, lines) = source.models.three();
+    let lent = [
+        target.models.table.bytes_mut(),
+        target.models.gauge.bytes_mut(),
+        target.models.lines.bytes_mut(),
+    ];
+    let expected = source.model.resize([table, gauge, lines], lent, path);
+    let expected = expected.number();
+
+    let from = &source.librarys;
+    let [(table, t), (gauge, g), (lines, l)] =
+        [&from.table, &from.gauge, &from.lines].map(|lent| (lent.pointer(), lent.len));
+    let to = &mut target.librarys;
+    let [(to_table, tt), (to_gauge, tg), (to_lines, tl)] =
+        [&mut to.table, &mut to.gauge, &mut to.lines].map(|lent| (lent.pointer_mut(), lent.len));
+    // SAFETY: each pointer is good for its length, or the length is 0. No two buffers overlap.
+    let found = unsafe {
+        cot_resize(
+            table, t, gauge, g, lines, l, to_table, tt, to_gauge, tg, to_lines, tl,
+        )
+    };
+
+    let mut different = Vec::new();
+    if found != expected {
+        different.push(format!("returned {found}, the model {expected}"));
+    }
+    for (of, both) in [("target", &*target), ("source", &*source)] {
+        let models = both.models.named();
+        for ((name, models), (_, librarys)) in models.into_iter().zip(both.librarys.named()) {
+            let own = difference(name, models, librarys);
+            different.extend(own.map(|text| format!("{of}'s {text}")));
+        }
+    }
+    if different.is_empty() {
+        return Ok(found);
+    }
+    Err(format!(
+        "difference: {}\n  resize, the source\n{}\n  and the target\n{}",
+        different.join("; "),
+        describe_memory(&before.0),
+        describe_memory(&before.1)
+    ))
 }
 
 /// Asks the library and the model which store a key at this position is fetched from, each lent the
@@ -547,11 +614,16 @@ fn describe_epoch(epoch: &Epoch, out: &[u8]) -> String {
 
 /// The call and the memory before it, in full for a small table.
 fn describe(before: &Memory, call: &Call) -> String {
+    format!("  {}\n{}", call_text(call), describe_memory(before))
+}
+
+/// The memory before a call, in full for a small table.
+fn describe_memory(before: &Memory) -> String {
     let table = before.table.bytes();
     let gauge = before.gauge.bytes();
-    let mut text = format!("  {}", call_text(call));
+    let mut text = String::new();
     for (number, (name, lent)) in before.named().into_iter().enumerate() {
-        text += if number == 0 { "\n  " } else { ", " };
+        text += if number == 0 { "  " } else { ", " };
         text += &format!("{name} {} bytes", lent.len);
         if lent.len == 0 {
             text += &format!(" at {:?}", lent.pointer());

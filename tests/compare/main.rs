@@ -1,12 +1,13 @@
 //! Compares libcot.a with an independent implementation of documents 01 and 02: every returned
 //! number and every lent byte, with guard bytes around each buffer.
 //!
-//!     compare [--seed N] [--calls N] [--verbose] [--fault NAME]
+//!     compare [--seed N] [--calls N] [--verbose] [--part NAME] [--fault NAME]
 //!
-//! --calls is the number of single calls in group (a); lists, random rings and random epochs grow
-//! with it. Fewer than 200,000 may be too few for every answer to come. --verbose prints the counts
-//! and the names of the tests. --fault gives the model a deliberate fault (FAULTS): the groups that
-//! it concerns are run, and the comparison must then fail.
+//! --calls is the number of single calls in group (a); lists, random rings, random epochs and
+//! single resizes grow with it. Fewer than 200,000 may be too few for every answer to come.
+//! --verbose prints the counts and the names of the tests. --part runs the groups of one part alone
+//! (PARTS). --fault gives the model a deliberate fault (FAULTS): the groups of its part are run,
+//! and the comparison must then fail.
 
 mod damaged;
 mod epoch_model;
@@ -15,6 +16,8 @@ mod harness;
 mod lists;
 mod model;
 mod random;
+mod resize;
+mod resize_model;
 mod ring;
 mod scale;
 
@@ -24,8 +27,14 @@ use std::process::exit;
 
 const SEED: u64 = 20_210_323;
 const CALLS: u64 = 400_000;
-const USAGE: &str = "compare [--seed N] [--calls N] [--verbose] [--fault NAME]";
-const FAULTS: [(&str, Fault); 26] = [
+const USAGE: &str = "compare [--seed N] [--calls N] [--verbose] [--part NAME] [--fault NAME]";
+const PARTS: [(&str, Part); 4] = [
+    ("tables", Part::Tables),
+    ("rings", Part::Rings),
+    ("epochs", Part::Epochs),
+    ("sizes", Part::Sizes),
+];
+const FAULTS: [(&str, Fault); 40] = [
     ("admit-equal", Fault::AdmitEqual),
     ("fresh-keeps", Fault::FreshKeeps),
     ("sum-heat", Fault::SumHeat),
@@ -52,6 +61,20 @@ const FAULTS: [(&str, Fault); 26] = [
     ("scale-falls-through", Fault::ScaleFallsThrough),
     ("scale-zero-least-within", Fault::ScaleZeroLeastWithin),
     ("scale-sizes-last", Fault::ScaleSizesLast),
+    ("sizes-hottest-dropped", Fault::SizesHottestDropped),
+    ("sizes-ceiling-left", Fault::SizesCeilingLeft),
+    ("sizes-ceiling-to-first", Fault::SizesCeilingToFirst),
+    ("sizes-old-numbers", Fault::SizesOldNumbers),
+    ("sizes-spare-filled", Fault::SizesSpareFilled),
+    ("sizes-tickets-renewed", Fault::SizesTicketsRenewed),
+    ("sizes-victims-by-heat", Fault::SizesVictimsByHeat),
+    ("sizes-lines-not-copied", Fault::SizesLinesNotCopied),
+    ("sizes-copied-by-new-number", Fault::SizesCopiedByNewNumber),
+    ("sizes-coldest-last", Fault::SizesColdestLast),
+    ("sizes-hottest-last", Fault::SizesHottestLast),
+    ("sizes-serial-if-given", Fault::SizesSerialIfGiven),
+    ("sizes-rest-kept", Fault::SizesRestKept),
+    ("sizes-target-last", Fault::SizesTargetLast),
 ];
 
 /// How often each answer and each step came.
@@ -137,6 +160,7 @@ struct Options {
     seed: u64,
     calls: u64,
     verbose: bool,
+    part: Option<Part>,
     model: Model,
 }
 
@@ -145,6 +169,7 @@ fn options() -> Result<Options, String> {
         seed: SEED,
         calls: CALLS,
         verbose: false,
+        part: None,
         model: Model::default(),
     };
     let mut words = std::env::args().skip(1);
@@ -159,11 +184,15 @@ fn options() -> Result<Options, String> {
             "--seed" => options.seed = number()?,
             "--calls" => options.calls = number()?,
             "--verbose" => options.verbose = true,
+            "--part" => {
+                let name = words.next().unwrap_or_default();
+                options.part = Some(named(&PARTS, &word, &name)?);
+            }
             "--fault" => {
                 let name = words.next().unwrap_or_default();
-                let fault = FAULTS.iter().find(|(own, _)| *own == name);
-                let (_, fault) = fault.ok_or(format!("--fault '{name}': {}", fault_names()))?;
-                options.model.fault = Some(*fault);
+                let fault = named(&FAULTS, &word, &name)?;
+                options.model.fault = Some(fault);
+                options.part = Some(fault.part());
             }
             _ => return Err(format!("unknown word '{word}'")),
         }
@@ -171,8 +200,13 @@ fn options() -> Result<Options, String> {
     Ok(options)
 }
 
-fn fault_names() -> String {
-    format!("one of {} is due", FAULTS.map(|(name, _)| name).join(", "))
+/// What has this name, of all that may stand behind the word.
+fn named<T: Copy>(all: &[(&str, T)], word: &str, name: &str) -> Result<T, String> {
+    let own = all.iter().find(|(own, _)| *own == name);
+    own.map(|(_, found)| *found).ok_or_else(|| {
+        let names: Vec<&str> = all.iter().map(|(name, _)| *name).collect();
+        format!("{word} '{name}': one of {} is due", names.join(", "))
+    })
 }
 
 fn main() {
@@ -182,8 +216,7 @@ fn main() {
         exit(2);
     });
     let mut tally = Tally::default();
-    let fault = options.model.fault;
-    let is_run = |part| fault.map_or(true, |fault| fault.part() == part);
+    let is_run = |part| options.part.map_or(true, |own| own == part);
     if is_run(Part::Tables) {
         single_calls(&options, &mut tally);
         lists_from_fresh(&options, &mut tally);
@@ -197,6 +230,11 @@ fn main() {
     if is_run(Part::Epochs) {
         random_epochs(&options, &mut tally);
         epoch_examples(&options, &mut tally);
+    }
+    if is_run(Part::Sizes) {
+        single_resizes(&options, &mut tally);
+        lists_with_resizes(&options, &mut tally);
+        resize_examples(&options, &mut tally);
     }
     println!("{} passed, {} failed", tally.passed, tally.failed);
     exit(if tally.failed == 0 { 0 } else { 1 });
@@ -350,6 +388,67 @@ fn epoch_examples(options: &Options, tally: &mut Tally) {
     tally.end_group(&format!(
         "(h) {} examples of epochs, with every wrong length of lookups and of out",
         scale::EXAMPLES.len()
+    ));
+}
+
+/// Group (i).
+fn single_resizes(options: &Options, tally: &mut Tally) {
+    let mut counts = Counts::default();
+    let resizes = (options.calls / 4 * 3).max(150_000);
+    let lengths = tally.test(resize::every_length(options.seed, &options.model));
+    tally.test(resize::run(
+        options.seed,
+        resizes,
+        &options.model,
+        &mut counts,
+    ));
+    let answers = resize::ANSWERS.map(|name| {
+        let (_, answer) = name.split_once(' ').expect("two words");
+        format!("{answer}: {}", counts.of(name))
+    });
+    let mut line = format!("(i) {resizes} single resizes of damaged memory");
+    if let Some(lengths) = lengths {
+        line += &format!(", {lengths} resizes with every length");
+    }
+    tally.end_group(&format!("{line}; resize {}", answers.join(", ")));
+    if options.verbose {
+        counts.print();
+    }
+}
+
+/// Group (j).
+fn lists_with_resizes(options: &Options, tally: &mut Tally) {
+    let mut counts = Counts::default();
+    let calls = (options.calls / 100).max(2_000);
+    let to_calls = lists::plans_with_resizes().into_iter();
+    let to_calls = to_calls.map(|plan| (plan, lists::End::Calls(calls)));
+    let to_agings = lists::plans_with_resizes_past_the_limit().into_iter();
+    let to_agings = to_agings.map(|plan| (plan, lists::End::AgedFirst(1)));
+    let plans: Vec<_> = to_calls.chain(to_agings).collect();
+    let mut all = 0;
+    for (number, (plan, end)) in plans.iter().enumerate() {
+        let (seed, model) = (options.seed, &options.model);
+        let result = lists::run(seed, number as u64, plan, *end, model, &mut counts);
+        all += tally.test(result).unwrap_or(0);
+    }
+    let steps = [&resize::STEPS[..], &lists::RESIZES].concat();
+    tally.steps_came(&steps, &counts, options.seed);
+    tally.end_group(&format!(
+        "(j) {} lists with resizes, most of {calls} calls, {all} calls in all, each from a fresh; \
+         demand 3 at the new sizes after each call",
+        plans.len()
+    ));
+    if options.verbose {
+        counts.print();
+    }
+}
+
+/// Group (k).
+fn resize_examples(options: &Options, tally: &mut Tally) {
+    examples(&resize::EXAMPLES, options, tally);
+    tally.end_group(&format!(
+        "(k) {} examples of resizes, to every K and every C",
+        resize::EXAMPLES.len()
     ));
 }
 

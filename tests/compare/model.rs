@@ -3,7 +3,8 @@
 //!
 //! In document 01's order, and independent of the library's code. Words in quotes are the
 //! documents'; document 02's on tickets are those of its Ask 2, on withdrawals of its Ask 4, on the
-//! victim of its Ask 5, and on rings of its Ask 6. The rules of its Ask 7 are in epoch_model.rs.
+//! victim of its Ask 5, and on rings of its Ask 6. The rules of its Ask 7 are in epoch_model.rs,
+//! and those of its Ask 8 in resize_model.rs; what demand 3 is after a resize is here.
 
 use std::collections::BTreeMap;
 
@@ -756,14 +757,36 @@ pub struct True {
 
 /// "It keeps a true total, and for every key a true heat and a picture, starting at 0, 0 and
 /// none." A key that is not in the map still has these. For document 02's sentence on the ticket of
-/// a picture it keeps that and the serial of an update too.
-#[derive(Clone, Default)]
+/// a picture it keeps that and the serial of an update too, and for its sentence on resizing the
+/// record counts.
+#[derive(Clone)]
 pub struct Replay {
     pub total: u64,
     pub keys: BTreeMap<u64, True>,
+    /// How many records the table lent to the next call has.
+    pub records: usize,
+    /// Document 02: "the smallest record count since fresh".
+    pub fewest: usize,
 }
 
 impl Replay {
+    /// The replay of a list that starts from a fresh table of so many records.
+    pub fn new(records: usize) -> Replay {
+        Replay {
+            total: 0,
+            keys: BTreeMap::new(),
+            records,
+            fewest: records,
+        }
+    }
+
+    /// An accepted resize to so many records. The true total, heats and pictures stay: document 02
+    /// has "the source's history".
+    pub fn resized(&mut self, records: usize) {
+        self.records = records;
+        self.fewest = self.fewest.min(records);
+    }
+
     /// "The replay is fed each call's kind, key, weight and picture, and whether it was refused.
     /// Nothing in the table, gauge or lines is read for it." Only an update is fed the serial that
     /// it found, for the sentence on tickets.
@@ -774,7 +797,7 @@ impl Replay {
         }
         match call {
             // "The list starts from a fresh table and gauge"
-            Call::Fresh => *self = Replay::default(),
+            Call::Fresh => *self = Replay::new(self.records),
             // It changes neither table nor gauge nor lines.
             Call::LevelledSum => {}
             Call::Age => self.age(),
@@ -834,8 +857,14 @@ impl Replay {
     pub fn compare(&self, table: &[u8], gauge: &[u8], lines: &[u8]) -> Result<(), String> {
         let records = records_of(table);
         let (total, ceiling, serial) = gauge_of(gauge);
-        let k = records.len() as u64;
         let tracked: Vec<&Record> = records.iter().filter(|record| !record.is_free()).collect();
+        let (k, fewest) = (records.len(), self.fewest);
+        if k != self.records || fewest > k || fewest == 0 {
+            return Err(format!(
+                "K {k} where {} is due, the smallest since fresh {fewest}",
+                self.records
+            ));
+        }
 
         // "The gauge's total equals the true total."
         if total != self.total {
@@ -863,9 +892,12 @@ impl Replay {
             }
         }
 
-        // "Its records are K": the product of K and the ceiling is at most the total.
-        if u128::from(k) * u128::from(ceiling) > u128::from(total) {
-            return Err(format!("K {k} x ceiling {ceiling} is over total {total}"));
+        // "Its records are K": the product of K and the ceiling is at most the total. Document 02:
+        // "the product with the ceiling" uses "the smallest record count since fresh".
+        if fewest as u128 * u128::from(ceiling) > u128::from(total) {
+            return Err(format!(
+                "the smallest K since fresh, {fewest}, x ceiling {ceiling} is over total {total}"
+            ));
         }
 
         // "hotter means more heat in the table": no class without a line is hotter than one that
@@ -911,10 +943,13 @@ impl Replay {
             }
         }
 
-        // "It never exceeds the total after a list as in demand 3."
-        let sum = levelled_sum(&records, ceiling);
+        // "It never exceeds the total after a list as in demand 3." Document 02: "the levelled
+        // sum's bound" is for "the sum over any that many records", so for those of largest level.
+        let sum = largest_levels(&records, ceiling, fewest);
         if sum > u128::from(total) {
-            return Err(format!("levelled sum {sum} is over total {total}"));
+            return Err(format!(
+                "levelled sum {sum} of {fewest} of {k} records is over total {total}"
+            ));
         }
 
         // These follow from the steps: a list from fresh leaves the table in order, doubles no key,
@@ -1070,6 +1105,34 @@ pub enum Fault {
     ScaleZeroLeastWithin,
     /// Cause 13 is tested before cause 1.
     ScaleSizesLast,
+    /// The hottest of those without a line leave a smaller table.
+    SizesHottestDropped,
+    /// The ceiling stays when records leave a smaller table.
+    SizesCeilingLeft,
+    /// The ceiling rises to the coldest of those that leave, which is the first of them.
+    SizesCeilingToFirst,
+    /// The lines that are kept are numbered in the order of their old numbers.
+    SizesOldNumbers,
+    /// A spare line is given filled.
+    SizesSpareFilled,
+    /// A record that keeps its line gets a new ticket.
+    SizesTicketsRenewed,
+    /// The first of equally cold records leaves a smaller table, whatever the slacks.
+    SizesVictimsByHeat,
+    /// The bytes of the lines that are kept are not copied.
+    SizesLinesNotCopied,
+    /// The bytes of a line that is kept are those of the source's line of its new number.
+    SizesCopiedByNewNumber,
+    /// Of equally cold records on lines, the last ones lose theirs.
+    SizesColdestLast,
+    /// Of equally hot records without a line, the last ones get the spare lines.
+    SizesHottestLast,
+    /// Cause 10 is tested only where a resize gives a ticket.
+    SizesSerialIfGiven,
+    /// The records behind the kept ones are not made free.
+    SizesRestKept,
+    /// The target's sizes are tested after causes 3 and 10 of the source.
+    SizesTargetLast,
 }
 
 /// What is compared in groups of its own.
@@ -1081,6 +1144,8 @@ pub enum Part {
     Rings,
     /// The call at the end of an epoch.
     Epochs,
+    /// The call for another K and C.
+    Sizes,
 }
 
 impl Fault {
@@ -1113,6 +1178,20 @@ impl Fault {
             | Fault::ScaleFallsThrough
             | Fault::ScaleZeroLeastWithin
             | Fault::ScaleSizesLast => Part::Epochs,
+            Fault::SizesHottestDropped
+            | Fault::SizesCeilingLeft
+            | Fault::SizesCeilingToFirst
+            | Fault::SizesOldNumbers
+            | Fault::SizesSpareFilled
+            | Fault::SizesTicketsRenewed
+            | Fault::SizesVictimsByHeat
+            | Fault::SizesLinesNotCopied
+            | Fault::SizesCopiedByNewNumber
+            | Fault::SizesColdestLast
+            | Fault::SizesHottestLast
+            | Fault::SizesSerialIfGiven
+            | Fault::SizesRestKept
+            | Fault::SizesTargetLast => Part::Sizes,
         }
     }
 }
@@ -1306,10 +1385,20 @@ impl Model {
 /// "The sum, over all K records, of the larger of heat and ceiling; free records count with heat
 /// 0."
 pub fn levelled_sum(records: &[Record], ceiling: u64) -> u128 {
+    largest_levels(records, ceiling, records.len())
+}
+
+/// The levelled sum "over any that many records": of so many, the largest there is.
+pub fn largest_levels(records: &[Record], ceiling: u64, count: usize) -> u128 {
     let heat = |record: &Record| if record.is_free() { 0 } else { record.heat };
-    records
+    let mut levels: Vec<u64> = records.iter().map(|r| heat(r).max(ceiling)).collect();
+    if count < levels.len() {
+        levels.sort_unstable_by(|one, other| other.cmp(one));
+    }
+    levels
         .iter()
-        .map(|record| u128::from(heat(record).max(ceiling)))
+        .take(count)
+        .map(|level| u128::from(*level))
         .sum()
 }
 

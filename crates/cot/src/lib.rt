@@ -9,6 +9,7 @@ ghost use Rattle.rules.specs.Answers.{number_of, completion_number};
 ghost use Rattle.rules.specs.Table.{Memory};
 ghost use Rattle.rules.specs.Steps.{Outcome, outcome};
 ghost use Rattle.rules.specs.Calls.{lent, host_lent, hosted, read_lent, put_ticket, exported, exported_read, read_outcome, update_outcome, fill_outcome, withdraw_outcome, age_outcome, exported_fresh, exported_sum};
+ghost use Rattle.resizing.specs.Resize.{hosted_resize, exported_resize};
 ghost use Rattle.ring.specs.Ring.{exported_store};
 ghost use Rattle.scaler.specs.Scale.{exported_scale, epoch};
 
@@ -210,6 +211,42 @@ pub extern "C" fn cot_levelled_sum(table: &[u8], gauge: &[u8], lines: &[u8], sum
     ensures { outcome result sum.new ≡ exported_sum (host_lent table.now gauge.now lines.now) sum.old }
 {
     completion_number(levelled_sum(table, gauge, lines, sum))
+}
+
+// A resize on a host's memory.
+#[tactic(auto, unfolding(resizing::specs::Resize::hosted_resize, rules::specs::Calls::gauge_test, rules::specs::Calls::verdict, rules::specs::Calls::unless, rules::specs::Calls::held, rules::specs::Calls::stored))]
+fn resize(
+    table: &[u8],
+    gauge: &[u8],
+    lines: &[u8],
+    to_table: &mut [u8],
+    to_gauge: &mut [u8],
+    to_lines: &mut [u8],
+) -> Result<(), Refusal>
+    ensures { outcome result (host_lent to_table.new to_gauge.new to_lines.new) ≡ hosted_resize (host_lent table.now gauge.now lines.now) (host_lent to_table.old to_gauge.old to_lines.old) }
+{
+    let source = gauge_at(gauge.as_array().ok_or(Refusal::WrongSizes)?);
+    let to_gauge = to_gauge.as_mut_array().ok_or(Refusal::WrongSizes)?;
+    let mut left = gauge_at(to_gauge);
+    let completion = resizing::resize(table, source, lines, to_table, &mut left, to_lines);
+    put_gauge(to_gauge, left);
+    completion
+}
+
+// Copies a table, its gauge and its lines into others of another K and C.
+#[unsafe(no_mangle)]
+#[tactic(auto, unfolding(resizing::specs::Resize::exported_resize))]
+pub extern "C" fn cot_resize(
+    table: &[u8],
+    gauge: &[u8],
+    lines: &[u8],
+    to_table: &mut [u8],
+    to_gauge: &mut [u8],
+    to_lines: &mut [u8],
+) -> u64
+    ensures { outcome result (host_lent to_table.new to_gauge.new to_lines.new) ≡ exported_resize (host_lent table.now gauge.now lines.now) (host_lent to_table.old to_gauge.old to_lines.old) }
+{
+    completion_number(resize(table, gauge, lines, to_table, to_gauge, to_lines))
 }
 
 // A store on a host's memory.

@@ -2,25 +2,31 @@
 -- by every call of a list, refused or accepted, of a Rattle caller or a C host. Assumes nothing.
 use Prim.Native.Nat.{ℕ, ◌*◌, ◌≤◌, ◌<◌, ◌^◌}
 use mathlib.Core.Path.{◌≡◌, refl, ap}
-use mathlib.Core.Bool.{Bool, true, false}
+use mathlib.Core.Bool.{Bool, true, false, true≢false, false≢true}
 use mathlib.Core.List.{List, [], ◌∷◌}
-use native.Mathlib.Nat.{le_trans, le-max_right, mul-le-mul_left}
+use native.Mathlib.Nat.{le-max_right, mul-le-mul_left}
 use native.Mathlib.Omega.{arith}
 use borrow.Author.Tests.{ltb-true, eqb-true}
 use lib.ListN.{length, replicate}
 use Rattle.std.specs.Prelude.{Ok}
-use Rattle.rules.specs.Answers.{Completion}
+use Rattle.rules.specs.declared.Refusal.{Refusal}
+use Rattle.rules.specs.Answers.{Completion, Reply}
 use Rattle.std.specs.Prelude.{Ok, Err}
 use Rattle.rules.specs.Bytes.{record_size, gauge_size}
 use Rattle.std.specs.Prelude.{if◌then◌else◌}
 use Rattle.rules.specs.Table.{Memory, is_tracked, is_unlined, is_lined, filled_state, places, size, line_total}
 use Rattle.rules.specs.Answers.{is_refused}
-use Rattle.rules.specs.Steps.{outcome, level, levelled_sum, age_steps, read_steps, update_steps, fill_steps, withdraw_steps}
+use Rattle.rules.specs.Steps.{Outcome, outcome, level, levelled_sum, age_steps, read_steps, update_steps, fill_steps, withdraw_steps}
 use Rattle.rules.specs.Calls.{OfSizes, HostMemory, HostRead, host_lent, read_lent, put_ticket, number_test, held, hosted, hosted_read, stored, gauge_test, sizes_test, order_test, order_good, verdict, unless, leaving, plain_verdict, read_verdict, update_verdict, fill_verdict, withdraw_verdict, age_outcome, read_outcome, update_outcome, fill_outcome, withdraw_outcome, fresh_outcome, exported_fresh}
 use Rattle.rules.specs.Replay.{Truth, unheard}
 use Rattle.rules.proofs.Places.{gauge_same}
-use Rattle.rules.proofs.Searches.{sum_least}
-use Rattle.rules.proofs.Chosen.{where_all, count_all}
+use Rattle.rules.specs.Pass.{count_where}
+use Rattle.rules.proofs.Chosen.{where_all, count_all, larger}
+use Rattle.resizing.specs.Resize.{resize_outcome, hosted_resize}
+use Rattle.resizing.proofs.Accepting.{done_verdict}
+use Rattle.resizing.proofs.Goes.{count_none}
+use Rattle.resizing.proofs.Refusals.{resize_leaves, hosted_resize_seen}
+use Rattle.resizing.proofs.ResizeHolds.{resize_holds}
 use Rattle.rules.proofs.Finds.{key_missing}
 use Rattle.rules.proofs.InOrder.{tracks_in_order}
 use Rattle.rules.proofs.Invariant.{Holds}
@@ -32,14 +38,25 @@ use Rattle.rules.proofs.ReadHolds.{read_holds}
 use Rattle.rules.proofs.UpdateHolds.{update_holds}
 use Rattle.rules.proofs.FillHolds.{fill_holds, late_fill_refused}
 use Rattle.rules.proofs.WithdrawHolds.{withdraw_holds}
-use Rattle.demand.specs.List.{read, update, fill, age, withdraw, Call, key_of, call_outcome, Lent, rattle, host, memory_of, hosted_else, host_made, made, heard, Event, event, told, Follows, nothing, own, elsewhere, accepted_truth, heard_truth, replay, accepted_stale, event_stale, stale_from, stale_up_to}
+use Rattle.demand.specs.List.{read, update, fill, age, withdraw, resize, Call, was_refused, moving, fed_by, key_of, call_outcome, Lent, rattle, host, memory_of, host_made, made, heard, Event, event, told, Follows, nothing, own, into, elsewhere, target_left, completed, accepted_truth, heard_truth, replay, accepted_stale, event_stale, stale_from, stale_up_to}
 use Rattle.demand.specs.Demand3.{Demand3, LevelledBound, StaysInOrder, HeavyHittersTracked, LateFillsRefused, AfterEveryList}
 use Rattle.demand.proofs.Refusals.{refused_leaves_all, host_leaves}
 
 -- ---- an accepted call
+-- of a resize the target, which the list goes on from
+pub moving_accepted : {Lent : Type 0} (source : Lent) (o : Outcome Completion Lent) → was_refused (moving source o).answer ≡ false →
+    (o.answer ≡ Ok tt) × ((moving source o).after ≡ o.after)
+unfolding unless
+moving_accepted source o = go o.answer
+  where
+    go : (c : Completion) → unless c (λ cause. true) false ≡ false → (c ≡ Ok tt) × (unless c (λ cause. source) o.after ≡ o.after)
+    go (Ok u) e = (refl, refl)
+    go (Err cause) e = absurd (true≢false e)
+
 call_holds : (c : Call) (m : Memory) (t : Truth) (stale : ℕ → ℕ) → Holds m t stale → key_of c < 2 ^ 64 →
-    is_refused (call_outcome c m).answer ≡ false → Holds (call_outcome c m).after (accepted_truth t c) (accepted_stale stale c m.gauge.serial)
-unfolding call_outcome key_of accepted_truth accepted_stale read_outcome update_outcome fill_outcome age_outcome withdraw_outcome unless age_steps
+    was_refused (call_outcome c m).answer ≡ false →
+    Holds (call_outcome c m).after (accepted_truth t (fed_by c)) (accepted_stale stale (fed_by c) m.gauge.serial)
+unfolding call_outcome key_of fed_by accepted_truth accepted_stale read_outcome update_outcome fill_outcome age_outcome withdraw_outcome unless age_steps
 call_holds (read key w) m t stale h fits ok =
     let v = accepted_verdict m (read_steps m key w) (read_verdict m w) ok in
     let a = read_accepted m w v in
@@ -56,6 +73,9 @@ call_holds age m t stale h fits ok =
 call_holds (withdraw key) m t stale h fits ok =
     let v = accepted_verdict m (withdraw_steps m key) (withdraw_verdict m) ok in
     rw v (withdraw_holds m t stale key h (withdraw_accepted m v))
+call_holds (resize target) m t stale h fits ok =
+    let (done, after) = moving_accepted m (resize_outcome m (held target)) ok in
+    rw after (resize_holds m (held target) t stale h done)
 
 -- what is stored into a host's memory is held there
 held_stored : (h : HostMemory) (m : Memory) (t : Truth) (stale : ℕ → ℕ) → Holds m t stale → length h.gauge ≡ gauge_size →
@@ -67,69 +87,104 @@ held_stored h m t stale k whole =
     rw (gauge_same h.gauge m.gauge whole (record { total = omega arith; ceiling = omega arith; serial = k.serial_fits }))
 
 -- a C host's accepted call is the call on what its memory holds
-hosted_accepted : (c : Call) (h : HostMemory) (t : Truth) (stale : ℕ → ℕ) → Holds (held h) t stale → key_of c < 2 ^ 64 →
-    is_refused (hosted (call_outcome c) h).answer ≡ false →
-    (is_refused (call_outcome c (held h)).answer ≡ false) × (held (hosted (call_outcome c) h).after ≡ (call_outcome c (held h)).after)
+hosted_accepted : (call : Memory → Outcome Reply Memory) (h : HostMemory) (t : Truth) (stale : ℕ → ℕ) →
+    (is_refused (call (held h)).answer ≡ false → Holds (call (held h)).after t stale) → is_refused (hosted call h).answer ≡ false →
+    (is_refused (call (held h)).answer ≡ false) × (held (hosted call h).after ≡ (call (held h)).after)
 unfolding hosted unless gauge_test
-hosted_accepted c h t stale k fits ok =
-    let o = call_outcome c (held h) in
+hosted_accepted call h t stale holds ok =
+    let o = call (held h) in
     let v = accepted_verdict h (outcome o.answer (stored h o.after)) (verdict (gauge_test h ∷ [])) ok in
     let whole : length h.gauge ≡ gauge_size = eqb-true (length h.gauge) gauge_size (first_passes _ _ v).0 in
     let accepted : is_refused o.answer ≡ false = rw v at ok in
-    (accepted, rw v (held_stored h o.after _ _ (call_holds c (held h) t stale k fits accepted) whole))
+    (accepted, rw v (held_stored h o.after t stale (holds accepted) whole))
 
-read_accepted_else : (c : Call) (h : HostRead) → is_refused (hosted_read (call_outcome c) h).answer ≡ false →
-    (is_refused (hosted (call_outcome c) h.memory).answer ≡ false)
-    × ((hosted_read (call_outcome c) h).after.memory ≡ (hosted (call_outcome c) h.memory).after)
+hosted_read_accepted : (call : Memory → Outcome Reply Memory) (h : HostRead) (t : Truth) (stale : ℕ → ℕ) →
+    (is_refused (call (held h.memory)).answer ≡ false → Holds (call (held h.memory)).after t stale) →
+    is_refused (hosted_read call h).answer ≡ false →
+    (is_refused (call (held h.memory)).answer ≡ false) × (held (hosted_read call h).after.memory ≡ (call (held h.memory)).after)
 unfolding hosted_read unless
-read_accepted_else c h ok =
-    let o = hosted (call_outcome c) h.memory in
+hosted_read_accepted call h t stale holds ok =
+    let o = hosted call h.memory in
     let v = accepted_verdict h (outcome o.answer (read_lent o.after (put_ticket h.ticket o.answer)))
     (verdict (number_test h.ticket ∷ [])) ok in
-    (rw v at ok, rw v refl)
+    rw v (hosted_accepted call h.memory t stale holds (rw v at ok))
 
--- so it is with every host's call
-host_made_lem : (c : Call) (h : HostRead) → is_refused (host_made c h).answer ≡ false →
-    (is_refused (hosted (call_outcome c) h.memory).answer ≡ false)
-    × ((host_made c h).after.memory ≡ (hosted (call_outcome c) h.memory).after)
-unfolding host_made hosted_else
-host_made_lem (read key w) h ok = read_accepted_else (read key w) h ok
-host_made_lem (update key w) h ok = (ok, refl)
-host_made_lem (fill key picture ticket) h ok = (ok, refl)
-host_made_lem age h ok = (ok, refl)
-host_made_lem (withdraw key) h ok = (ok, refl)
+hosted_resize_accepted : (source target : HostMemory) (t : Truth) (stale : ℕ → ℕ) → Holds (held source) t stale →
+    (hosted_resize source target).answer ≡ Ok tt →
+    ((resize_outcome (held source) (held target)).answer ≡ Ok tt)
+    × (held (hosted_resize source target).after ≡ (resize_outcome (held source) (held target)).after)
+unfolding hosted_resize unless gauge_test
+hosted_resize_accepted source target t stale k e =
+    let o = resize_outcome (held source) (held target) in
+    let v = done_verdict target (outcome o.answer (stored target o.after)) (verdict (gauge_test source ∷ gauge_test target ∷ [])) e in
+    let whole : length target.gauge ≡ gauge_size =
+    eqb-true (length target.gauge) gauge_size (first_passes _ _ (first_passes _ _ v).1).0 in
+    let done : o.answer ≡ Ok tt = rw v at e in
+    (done, rw v (held_stored target o.after _ _ (resize_holds (held source) (held target) t stale k done) whole))
 
 -- an accepted call is the call on the list's memory, and leaves what that leaves
 pub made_accepted : (c : Call) (lent : Lent) (t : Truth) (stale : ℕ → ℕ) → Holds (memory_of lent) t stale → key_of c < 2 ^ 64 →
-    is_refused (made c lent).answer ≡ false →
-    (is_refused (call_outcome c (memory_of lent)).answer ≡ false) × (memory_of (made c lent).after ≡ (call_outcome c (memory_of lent)).after)
-unfolding made memory_of
+    was_refused (made c lent).answer ≡ false →
+    (was_refused (call_outcome c (memory_of lent)).answer ≡ false) × (memory_of (made c lent).after ≡ (call_outcome c (memory_of lent)).after)
+unfolding made memory_of host_made call_outcome unless
 made_accepted c (rattle m) t stale k fits ok = (ok, refl)
-made_accepted c (host h) t stale k fits ok =
-    let (accepted, after) = host_made_lem c h ok in
-    rw after (hosted_accepted c h.memory t stale k fits accepted)
+made_accepted (read key w) (host h) t stale k fits ok =
+    hosted_read_accepted (λ m. read_outcome m key w) h _ _ (call_holds (read key w) (held h.memory) t stale k fits) ok
+made_accepted (update key w) (host h) t stale k fits ok =
+    hosted_accepted (λ m. update_outcome m key w) h.memory _ _ (call_holds (update key w) (held h.memory) t stale k fits) ok
+made_accepted (fill key picture ticket) (host h) t stale k fits ok =
+    hosted_accepted (λ m. fill_outcome m key picture ticket) h.memory _ _
+    (call_holds (fill key picture ticket) (held h.memory) t stale k fits) ok
+made_accepted age (host h) t stale k fits ok =
+    hosted_accepted age_outcome h.memory _ _ (call_holds age (held h.memory) t stale k fits) ok
+made_accepted (withdraw key) (host h) t stale k fits ok =
+    hosted_accepted (λ m. withdraw_outcome m key) h.memory _ _ (call_holds (withdraw key) (held h.memory) t stale k fits) ok
+made_accepted (resize target) (host h) t stale k fits ok =
+    let (done, after) = moving_accepted h.memory (hosted_resize h.memory target) ok in
+    let (accepted, left) = hosted_resize_accepted h.memory target t stale k done in
+    (rw accepted refl, rw (after, accepted) left)
 
 -- ---- a refused call that is lent the list's memory leaves it
-pub refused_stays : (c : Call) (lent : Lent) (t : Truth) (stale : ℕ → ℕ) → Holds (memory_of lent) t stale → is_refused (made c lent).answer ≡ true →
+pub refused_stays : (c : Call) (lent : Lent) (t : Truth) (stale : ℕ → ℕ) → Holds (memory_of lent) t stale → was_refused (made c lent).answer ≡ true →
     memory_of (made c lent).after ≡ memory_of lent
 unfolding made memory_of
 refused_stays c (rattle m) t stale k e = refused_leaves_all c m e
 refused_stays c (host h) t stale k e = (host_leaves held c h (held_stored h.memory (held h.memory) t stale k) e).0
 
+-- nor does a refused resize write into it
+refusal_of : (c : Completion) → was_refused (completed c) ≡ true → (cause : Refusal) × (c ≡ Err cause)
+unfolding unless
+refusal_of (Ok u) e = absurd (false≢true e)
+refusal_of (Err cause) e = (cause, refl)
+
+pub target_stays : (target : HostMemory) (lent : Lent) (t : Truth) (stale : ℕ → ℕ) → Holds (held target) t stale →
+    was_refused (made (resize target) lent).answer ≡ true → target_left target lent ≡ held target
+unfolding made call_outcome host_made target_left
+target_stays target (rattle m) t stale k e =
+    let (cause, is) = refusal_of (resize_outcome m (held target)).answer e in resize_leaves m (held target) cause is
+target_stays target (host h) t stale k e =
+    let (cause, is) = refusal_of (hosted_resize h.memory target).answer e in
+    hosted_resize_seen held h.memory target cause (held_stored target (held target) t stale k) is
+
+pub into_holds : {m : Memory} (target : HostMemory) (lent : Lent) (t : Truth) (stale : ℕ → ℕ) → Holds m t stale → held target ≡ m →
+    was_refused (made (resize target) lent).answer ≡ true → Holds (target_left target lent) t stale
+into_holds target lent t stale h same e =
+    let k : Holds (held target) t stale = rw same h in rw (target_stays target lent t stale k e) k
+
 -- ---- the list
 pub own_holds : {m : Memory} (c : Call) (lent : Lent) (t : Truth) (stale : ℕ → ℕ) → Holds m t stale → memory_of lent ≡ m → key_of c < 2 ^ 64 →
-    Holds (memory_of (made c lent).after) (heard_truth t (heard c (is_refused (made c lent).answer)))
-    (event_stale stale (event c (is_refused (made c lent).answer) m))
+    Holds (memory_of (made c lent).after) (heard_truth t (heard (fed_by c) (was_refused (made c lent).answer)))
+    (event_stale stale (event c (was_refused (made c lent).answer) m))
 unfolding heard_truth event_stale
 own_holds {m} c lent t stale h same fits =
-    rw (ap (λ (m : Memory). m.gauge.serial) same) at (go (is_refused (made c lent).answer) refl)
+    rw (ap (λ (m : Memory). m.gauge.serial) same) at (go (was_refused (made c lent).answer) refl)
   where
     k : Holds (memory_of lent) t stale
     k = rw same h
 
-    go : (b : Bool) → is_refused (made c lent).answer ≡ b →
-        Holds (memory_of (made c lent).after) (if b then t else accepted_truth t c)
-        (if b then stale else accepted_stale stale c (memory_of lent).gauge.serial)
+    go : (b : Bool) → was_refused (made c lent).answer ≡ b →
+        Holds (memory_of (made c lent).after) (if b then t else accepted_truth t (fed_by c))
+        (if b then stale else accepted_stale stale (fed_by c) (memory_of lent).gauge.serial)
     go true e = rw (refused_stays c lent t stale k e) k
     go false e =
         let (accepted, after) = made_accepted c lent t stale k fits e in
@@ -140,6 +195,7 @@ pub list_holds : {m end : Memory} {es : List Event} (t : Truth) (stale : ℕ →
 unfolding told replay heard_truth stale_from event_stale
 list_holds t stale h nothing = h
 list_holds t stale h (own c lent same fits rest) = list_holds _ _ (own_holds c lent t stale h same (omega arith)) rest
+list_holds t stale h (into target lent same e rest) = list_holds t stale (into_holds target lent t stale h same e) rest
 list_holds t stale h (elsewhere c lent e rest) = list_holds t stale h rest
 
 -- what holds after it
@@ -167,16 +223,14 @@ from_host_fresh Claim claim h end es told-zero follows =
     claim (held h) end es starts.0 (rw starts.1 at follows)
 
 -- ---- what it says
-levels_most : (m : Memory) (t : Truth) (stale : ℕ → ℕ) → Holds m t stale → levelled_sum m ≤ m.gauge.total
-unfolding levelled_sum
-levels_most m t stale h =
-    rw where_all at (h.tracks.levels (λ i. true) (rw h.tracks.few (count_all (size m))))
-
--- every level is at least the ceiling
-product_most : (m : Memory) (t : Truth) (stale : ℕ → ℕ) → Holds m t stale → size m * m.gauge.ceiling ≤ m.gauge.total
-unfolding level levelled_sum
+-- some such choice of places has levels that are each at least the ceiling
+product_most : (m : Memory) (t : Truth) (stale : ℕ → ℕ) → Holds m t stale → t.fewest * m.gauge.ceiling ≤ m.gauge.total
+unfolding level count_where
 product_most m t stale h =
-    le_trans (sum_least (level m.gauge.ceiling) (places m) (size m) m.gauge.ceiling (λ i inside. le-max_right _ _)) (levels_most m t stale h)
+    let none : count_where (λ i. false) (size m) ≡ 0 = count_none (λ (i : ℕ). false) (λ i. i) (size m) (λ i inside. refl) in
+    let x = larger (λ i. false) (λ i. true) (level m.gauge.ceiling) (places m) m.gauge.ceiling (size m)
+    (λ i inside e. le-max_right _ _) t.fewest (rw count_all (omega (arith, none, h.tracks.few))) in
+    omega (arith, x.sum, h.tracks.levels x.choice (omega (arith, x.many, none)))
 
 says : (m : Memory) (t : Truth) (es : List Event) → Holds m t (stale_up_to es) → Demand3 m t es
 unfolding is_lined is_unlined is_tracked filled_state
@@ -190,7 +244,8 @@ says m t es h =
       not_above = λ i inside tracked. omega (arith, s.not_above i inside (ltb-true 0 (places m i).state tracked));
       untracked = λ key missing. omega (arith, s.untracked key (key_missing (places m) (size m) key missing));
       few = s.few;
-      product = rw s.few (product_most m t (stale_up_to es) h);
+      product = product_most m t (stale_up_to es) h;
+      levelled = s.levels;
       total = s.total;
       latest = h.shows.latest;
       current = λ i line inside e.
@@ -201,7 +256,10 @@ pub demand3 : AfterEveryList Demand3
 demand3 m end es done follows = says end (replay (unheard (size m)) (told es)) es (after_list m end es done follows)
 
 pub levelled_bound : AfterEveryList LevelledBound
-levelled_bound m end es done follows = omega (arith, levels_most end (replay (unheard (size m)) (told es)) (stale_up_to es) (after_list m end es done follows))
+unfolding levelled_sum
+levelled_bound m end es done follows same =
+    let h = after_list m end es done follows in
+    rw where_all at (h.tracks.levels (λ i. true) (rw same (count_all (size end))))
 
 pub stays_in_order : AfterEveryList StaysInOrder
 unfolding plain_verdict verdict sizes_test order_test order_good
@@ -214,7 +272,7 @@ heavy_hitters_tracked m end es done follows key heavy missing =
     let h = after_list m end es done follows in
     omega (
       arith,
-      mul-le-mul_left (size end) (h.tracks.untracked key (key_missing (places end) (size end) key missing)),
+      mul-le-mul_left (replay (unheard (size m)) (told es)).fewest (h.tracks.untracked key (key_missing (places end) (size end) key missing)),
       product_most end (replay (unheard (size m)) (told es)) (stale_up_to es) h,
     )
 

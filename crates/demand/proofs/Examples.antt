@@ -1,35 +1,41 @@
 -- What keeps demand 3 from being thinned unnoticed: for each clause a memory and a truth that miss it, by one, and no other clause; and
 -- that its premise is wide. Each example is run. Assumes nothing.
-use Prim.Native.Nat.{ℕ, ◌+◌, ◌*◌, ◌≤◌, ◌<◌, ◌^◌}
-use mathlib.Core.Path.{◌≡◌, refl, ap}
-use mathlib.Core.Bool.{true, false}
+use Prim.Native.Nat.{ℕ, ◌+◌, ◌*◌, ◌≤◌, ◌<◌, ◌^◌, min}
+use mathlib.Core.Path.{◌≡◌, refl, sym, ap}
+use mathlib.Core.Bool.{Bool, true, false, ◌||◌, true≢false}
 use mathlib.Core.Option.{Option, none, some}
 use mathlib.Core.List.{List, [], ◌∷◌, ◌++◌}
+use mathlib.Core.Logic.{◌≢◌}
+use native.Mathlib.Decide.{dec_lt}
 use native.Mathlib.Omega.{arith}
 use lib.ListN.{get_or, replicate}
-use lib.Dec.{eqb}
-use borrow.Author.Tests.{eq-eqb}
+use lib.Dec.{eqb, leb, ltb}
+use borrow.Author.Tests.{eq-eqb, leb-true, ltb-true, le-leb, lt-ltb}
 use Rattle.rules.specs.declared.Record.{Record}
-use Rattle.std.specs.Prelude.{Some, None}
-use Rattle.rules.specs.Pass.{Found}
-use Rattle.rules.specs.Bytes.{IsBytes, get64, line_count}
+use Rattle.std.specs.Prelude.{Some, None, Ok}
+use Rattle.rules.specs.Pass.{Found, sum_where}
+use Rattle.rules.specs.Steps.{outcome, level, levelled_sum}
+use Rattle.rules.specs.Bytes.{IsBytes, get64, put_record, line_count}
 use Rattle.std.specs.Prelude.{if◌then◌else◌}
 use Rattle.rules.specs.Table.{Memory, key_record, places, size, with_lines}
-use Rattle.rules.specs.Answers.{is_refused, number_of, completion_number}
-use Rattle.rules.specs.Calls.{read_outcome, fill_outcome, fresh_outcome, host_lent, HostRead, read_lent, put_ticket, hosted_read, exported_read, exported_fresh}
+use Rattle.rules.specs.Answers.{Completion, is_refused, completion_number}
+use Rattle.rules.specs.Calls.{plain_verdict, read_outcome, fill_outcome, fresh_outcome, HostMemory, host_lent, held, HostRead, read_lent, put_ticket, hosted_read, exported_read, exported_fresh}
 use Rattle.rules.specs.Numbers.{TellsLine}
 use Rattle.rules.specs.Replay.{Filled, filled_with, Truth, unheard, at, make_stale}
 use Rattle.rules.specs.Sample.{gauge_of, numbers, three_records, sample_picture, host_start}
+use Rattle.rules.proofs.Searches.{both}
 use Rattle.rules.proofs.Changes.{at_same}
+use Rattle.resizing.specs.Resize.{hosted_resize, exported_resize}
+use Rattle.demand.proofs.Refusals.{told_by_number}
 use Rattle.rules.proofs.Answered.{host_answered_line}
-use Rattle.demand.specs.List.{Call, read, update, fill, age, withdraw, call_outcome, key_of, Lent, memory_of, host_made, made, heard, Event, happened, event, told, rattle, host, Follows, nothing, own, elsewhere, heard_truth, replay, accepted_stale, event_stale, stale_up_to, voided, next_serial, ticket_put}
+use Rattle.demand.specs.List.{completed, Call, read, update, fill, age, withdraw, resize, was_refused, number_told, call_outcome, key_of, Lent, memory_of, host_made, made, heard, Event, happened, event, told, rattle, host, Follows, nothing, own, into, elsewhere, target_left, heard_truth, replay, accepted_stale, event_stale, stale_up_to, voided, next_serial, ticket_put}
 use Rattle.demand.specs.Demand3.{Demand3, LevelledBound, StaysInOrder, HeavyHittersTracked, GivenSince, TicketsGivenSince, Removed}
 use Rattle.demand.specs.Sample.{sample_calls}
 use Rattle.demand.proofs.Computing.{computing}
 use Rattle.demand.proofs.Refusals.{refused_leaves_lent, small_number_leaves}
 use Rattle.demand.proofs.SampleList.{eight_bytes}
 use Rattle.demand.proofs.Peek.{peek_leaves_lent, peek_counts_nothing}
-use Rattle.demand.proofs.EveryList.{demand3, late_fills_refused, from_host_fresh}
+use Rattle.demand.proofs.EveryList.{demand3, levelled_bound, heavy_hitters_tracked, stays_in_order, moving_accepted, late_fills_refused, from_host_fresh}
 use Rattle.demand.proofs.Since.{given_since}
 use Rattle.demand.proofs.Overtaken.{overtaken_refused}
 use Rattle.demand.proofs.Withdrawn.{withdrawals_leave}
@@ -50,12 +56,15 @@ heats seven eight other key = if eqb key 7 then seven else if eqb key 8 then eig
 abbrev tracked_two : Memory
 tracked_two = two (numbers 7 4 0 2 5) (numbers 8 3 0 1 0) 2
 
--- nothing happened, so that no ticket is stale
+-- nothing but a resize happened, so that no ticket is stale
 abbrev unstale : List Event
-unstale = []
+unstale = happened (resize 3) false 0 ∷ []
 
 abbrev truth : ℕ → (ℕ → ℕ) → Truth
 truth total heat = record { total = total; heat = heat; picture = λ key. none; fewest = 3 }
+
+abbrev truth_since : ℕ → ℕ → Truth
+truth_since fewest total = record { total = total; heat = heats 4 3 0; picture = λ key. none; fewest = fewest }
 
 -- the first on an empty line; the second on a filled one
 pub hottest_bites :
@@ -97,13 +106,18 @@ pub untracked_bites : (key : ℕ) → key_record key (places tracked_two) (size 
 unfolding computing
 untracked_bites key missing d = let e : at key 3 (heats 4 3 0) key ≤ 2 = d.untracked key missing in omega (arith, at_same key 3 (heats 4 3 0))
 
-pub few_bites : ¬ Demand3 (two (numbers 7 4 0 2 5) (numbers 8 3 0 1 0) 0) (record { total = 20; heat = heats 4 3 0; picture = λ key. none; fewest = 2 }) unstale
+pub few_bites : ¬ Demand3 (two (numbers 7 4 0 2 5) (numbers 8 3 0 1 0) 0) (record { total = 20; heat = heats 4 3 0; picture = λ key. none; fewest = 4 }) unstale
 unfolding computing
-few_bites d = let e : ◌≡◌ {A = ℕ} 2 3 = d.few in omega arith
+few_bites d = let e : 4 ≤ 3 = d.few in omega arith
 
 pub product_bites : ¬ Demand3 (two (numbers 7 4 0 2 5) (numbers 8 3 0 1 0) 7) (truth 20 (heats 4 3 0)) unstale
 unfolding computing
 product_bites d = let e : 3 * 7 ≤ 20 = d.product in omega arith
+
+-- two times 4, and a total of 7, where there are more records than the fewest
+pub product_since_bites : ¬ Demand3 (three_records (numbers 7 4 0 2 5) (numbers 8 3 0 1 0) (numbers 0 0 0 0 0) (gauge_of 7 4 5) 1) (truth_since 2 7) unstale
+unfolding computing
+product_since_bites d = let e : 2 * 4 ≤ 7 = d.product in omega arith
 
 pub total_bites : ¬ Demand3 (two (numbers 7 4 0 2 5) (numbers 8 3 0 1 0) 0) (truth 21 (heats 4 3 0)) unstale
 unfolding computing
@@ -169,15 +183,37 @@ current_bites = (
   λ d. let e : 5 ≤ 4 = (d.current 2 1 (omega arith) refl).1 in omega arith,
 )
 
--- levels of 4, 3 and 1, and a total of 7
+-- levels of 4 and 3 of the smallest record count since fresh, 2, and a total of 6: at the first places, and at the last
+abbrev chosen_of : ℕ → ℕ → ℕ → Bool
+chosen_of a b i = eqb i a || eqb i b
+
+pub levels_bite :
+    (¬ Demand3 (three_records (numbers 7 4 0 2 5) (numbers 8 3 0 1 0) (numbers 0 0 0 0 0) (gauge_of 6 0 5) 1) (truth_since 2 6) unstale)
+    × (¬ Demand3 (three_records (numbers 0 0 0 0 0) (numbers 7 4 0 2 5) (numbers 8 3 0 1 0) (gauge_of 6 0 5) 1) (truth_since 2 6) unstale)
+    × (¬ Demand3 (three_records (numbers 7 4 0 2 5) (numbers 0 0 0 0 0) (numbers 0 0 0 0 0) (gauge_of 6 3 5) 1) (truth_since 2 6) unstale)
+unfolding computing
+levels_bite = (
+  λ d. let e : 7 ≤ 6 = d.levelled (chosen_of 0 1) refl in omega arith,
+  λ d. let e : 7 ≤ 6 = d.levelled (chosen_of 1 2) refl in omega arith,
+  λ d. let e : 7 ≤ 6 = d.levelled (chosen_of 0 2) refl in omega arith,
+)
+
+-- levels of 4, 3 and 1 of three records, as many as since fresh, and a total of 7
 pub levelled_bites : ¬ LevelledBound (three_records (numbers 7 4 0 2 5) (numbers 8 3 0 1 0) (numbers 0 0 0 0 0) (gauge_of 7 1 5) 1) (truth 7 (heats 4 3 0)) unstale
 unfolding computing
-levelled_bites d = let e : 8 ≤ 7 = d in omega arith
+levelled_bites d = let e : 8 ≤ 7 = d refl in omega arith
 
 -- three times 3, and a total of 8
 pub heavy_bites : ¬ HeavyHittersTracked (three_records (numbers 7 4 0 2 5) (numbers 8 3 0 1 0) (numbers 0 0 0 0 0) (gauge_of 8 1 5) 1) (truth 8 (heats 4 3 3)) unstale
 unfolding computing
 heavy_bites d = d 9 (omega arith) refl
+
+-- two times 3, and a total of 5: the fewest, and not the records that there are
+pub heavy_since_bites : ¬ HeavyHittersTracked
+    (three_records (numbers 7 4 0 2 5) (numbers 8 3 0 1 0) (numbers 0 0 0 0 0) (gauge_of 5 1 5) 1)
+    (record { total = 5; heat = heats 4 3 3; picture = λ key. none; fewest = 2 }) unstale
+unfolding computing
+heavy_since_bites d = d 9 (omega arith) refl
 
 -- a heat over the total; a ticket without a line
 pub stays_bites :
@@ -192,20 +228,25 @@ stays_bites = (
 -- ---- the premise
 -- any call on what it is lent, by anybody; and any refused one besides
 pub any_call : {end : Memory} {es : List Event} (c : Call) (l : Lent) → key_of c < 2 ^ 64 → Follows (memory_of (made c l).after) es end →
-    Follows (memory_of l) (event c (is_refused (made c l).answer) (memory_of l) ∷ es) end
+    Follows (memory_of l) (event c (was_refused (made c l).answer) (memory_of l) ∷ es) end
 any_call c l fits rest = own c l refl fits rest
 
-pub any_refused : {m end : Memory} {es : List Event} (c : Call) (l : Lent) → is_refused (made c l).answer ≡ true → Follows m es end →
+pub any_into : {m end : Memory} {es : List Event} (target : HostMemory) (l : Lent) → held target ≡ m →
+    was_refused (made (resize target) l).answer ≡ true → Follows (target_left target l) es end →
+    Follows m (event (resize target) true m ∷ es) end
+any_into target l same e rest = into target l same e rest
+
+pub any_refused : {m end : Memory} {es : List Event} (c : Call) (l : Lent) → was_refused (made c l).answer ≡ true → Follows m es end →
     Follows m (event c true m ∷ es) end
 any_refused c l e rest = elsewhere c l e rest
 
 -- a look, by anybody, refused or not: all that it may write is the ticket of a wanted
 pub any_look : (t : Truth) (key : ℕ) (m : Memory) (h : HostRead) → IsBytes h.memory.gauge →
     ((made (read key 0) (rattle m)).after ≡ rattle m)
-    × ((made (read key 0) (host h)).after ≡ host (read_lent h.memory (put_ticket h.ticket (made (read key 0) (host h)).answer)))
+    × ((made (read key 0) (host h)).after ≡ host (read_lent h.memory (put_ticket h.ticket (hosted_read (λ m. read_outcome m key 0) h).answer)))
     × (heard_truth t (heard (read key 0) true) ≡ t)
     × (heard_truth t (heard (read key 0) false) ≡ t)
-unfolding ticket_put
+unfolding ticket_put made host_made
 any_look t key m h bytes = (
   peek_leaves_lent key (rattle m) tt,
   peek_leaves_lent key (host h) bytes,
@@ -215,8 +256,8 @@ any_look t key m h bytes = (
 
 -- any refused call, by anybody, leaves all that it was lent, a ticket's bytes too
 pub any_refused_leaves : (c : Call) (m : Memory) (h : HostRead) → IsBytes h.memory.gauge →
-    (is_refused (made c (rattle m)).answer ≡ true → (made c (rattle m)).after ≡ rattle m)
-    × (is_refused (made c (host h)).answer ≡ true → (made c (host h)).after ≡ host h)
+    (was_refused (made c (rattle m)).answer ≡ true → (made c (rattle m)).after ≡ rattle m)
+    × (was_refused (made c (host h)).answer ≡ true → (made c (host h)).after ≡ host h)
 any_refused_leaves c m h bytes = (refused_leaves_lent c (rattle m) tt, refused_leaves_lent c (host h) bytes)
 
 -- Memory that is not clear, with two lines; a look that other memory refuses, for its sizes; a host's read of the largest key and
@@ -563,6 +604,207 @@ withdrawn_bites = (
   λ d. let e : ◌≡◌ {A = ℕ} 7 0 = ap class_of (d.gone refl) in omega arith,
 )
 
+-- ---- resizes (document 02)
+-- From what `struck_start` is: 5 on a filled line, 7 on an empty one, 11 on none, a ceiling of 1. A host resizes it into two records and
+-- one line: 7 loses its line, 11 is dropped (as cold as 7, with more slack), and the ceiling rises to 2. A resize into one record and one
+-- line is refused, and so is one of other memory into the list's own. 13 is read, for 7. Then into three records and two lines: 13 gets
+-- the second one.
+abbrev narrow : HostMemory
+narrow = host_lent (replicate 80 170) (replicate 24 170) (replicate 64 170)
+
+abbrev wrong : HostMemory
+wrong = host_lent (replicate 40 170) (replicate 24 170) (replicate 64 170)
+
+abbrev wide : HostMemory
+wide = host_lent (replicate 120 170) [] (replicate 128 170)
+
+abbrev resized_before : List Event
+resized_before = struck_before ++ (happened (resize 2) false 2 ∷ happened (resize 1) true 2 ∷ happened (resize 2) true 2 ∷ happened (read 13 1) false 2 ∷ [])
+
+abbrev resized_events : List Event
+resized_events = resized_before ++ (happened (resize 3) false 2 ∷ happened (fill 13 (sample_picture 3) 3) false 3 ∷ [])
+
+abbrev gauge_bytes : ℕ → ℕ → ℕ → List ℕ
+gauge_bytes total ceiling serial = total ∷ replicate 7 0 ++ (ceiling ∷ replicate 7 0 ++ (serial ∷ replicate 7 0))
+
+abbrev narrowed : Memory
+narrowed = (call_outcome (resize narrow) struck_start).after
+
+abbrev resized_end : Memory
+resized_end =
+    with_lines (sample_picture 1 ++ sample_picture 3)
+    (three_records (numbers 5 3 0 3 1) (numbers 13 3 2 5 3) (numbers 0 0 0 0 0) (gauge_of 8 2 3) 2)
+
+resized_list : Follows struck_start
+    (happened (resize 2) false 2 ∷ happened (resize 1) true 2 ∷ happened (resize 2) true 2 ∷ happened (read 13 1) false 2 ∷ happened (resize 3) false 2
+    ∷ happened (fill 13 (sample_picture 3) 3) false 3 ∷ [])
+    resized_end
+unfolding computing
+resized_list =
+    own (resize narrow) (host (read_lent (host_lent struck_start.table (gauge_bytes 7 1 2) struck_start.lines) [])) refl (omega arith)
+    (own (resize wrong) (rattle _) refl (omega arith)
+    (into (host_lent narrowed.table (gauge_bytes 7 2 2) narrowed.lines) (rattle (dirty 3)) refl refl
+    (own (read 13 1) (rattle _) refl (omega arith)
+    (own (resize wide) (rattle _) refl (omega arith)
+    (own (fill 13 (sample_picture 3) 3) (rattle _) refl (omega arith)
+    nothing)))))
+
+resized_whole : Follows cleared resized_events resized_end
+unfolding computing
+resized_whole =
+    own (read 5 3) (rattle _) refl (omega arith)
+    (own (fill 5 (sample_picture 1) 1) (rattle _) refl (omega arith)
+    (own (read 7 2) (rattle _) refl (omega arith)
+    (own (read 9 1) (rattle _) refl (omega arith)
+    (own (read 11 1) (rattle _) refl (omega arith)
+    resized_list))))
+
+-- by the theorem: 2 is the smallest record count, two times 2 is no more than 8, and no two of the three levels are more; the lines show
+-- what was filled before the resizes, and between
+pub resized_demand3 :
+    ((replay (unheard 3) (told resized_events)).fewest ≡ 2)
+    × (2 * resized_end.gauge.ceiling ≤ resized_end.gauge.total)
+    × (sum_where (chosen_of 0 2) (level 2) (places resized_end) 3 ≤ 8)
+    × ((replay (unheard 3) (told resized_events)).picture 5 ≡ some (filled_with (sample_picture 1) 1))
+    × ((replay (unheard 3) (told resized_events)).picture 13 ≡ some (filled_with (sample_picture 3) 3))
+unfolding computing
+resized_demand3 =
+    let d = demand3 (dirty 2) resized_end resized_events refl resized_whole in
+    (refl, d.product, d.levelled (chosen_of 0 2) refl, d.latest 0 0 (omega arith) refl, d.latest 1 1 (omega arith) refl)
+
+-- what the first resize leaves, whole: with its line's bytes and its ticket; a line that is given keeps the target's bytes
+pub narrowed_is :
+    (call_outcome (resize narrow) struck_start
+    ≡ outcome (completed (Ok tt))
+    (with_lines (sample_picture 1)
+    (record { table = put_record (put_record (replicate 80 0) 0 (numbers 5 3 0 3 1)) 1 (numbers 7 2 0 1 0); gauge = gauge_of 7 2 2; lines = [] })))
+    × ((call_outcome (resize wide) narrowed).after.lines ≡ sample_picture 1 ++ sample_picture 170)
+unfolding computing
+narrowed_is = (refl, refl)
+
+-- into five records: their levels, 3, 3, 2, 2 and 2, are more than the total together, and so is five times the ceiling
+abbrev wider : HostMemory
+wider = host_lent (replicate 200 170) [] (replicate 128 170)
+
+pub grown_over :
+    (levelled_sum (call_outcome (resize wider) resized_end).after ≡ 12)
+    × ((call_outcome (resize wider) resized_end).after.gauge.total ≡ 8)
+    × (8 < 5 * (call_outcome (resize wider) resized_end).after.gauge.ceiling)
+unfolding computing
+grown_over = (refl, refl, omega arith)
+
+-- after the first resize there are as many records as the fewest, so that all levels are within the total
+pub narrowed_levels : levelled_sum narrowed ≤ 7
+unfolding computing
+narrowed_levels =
+    levelled_bound (dirty 2) narrowed (struck_before ++ (happened (resize 2) false 2 ∷ [])) refl
+    (own (read 5 3) (rattle _) refl (omega arith)
+    (own (fill 5 (sample_picture 1) 1) (rattle _) refl (omega arith)
+    (own (read 7 2) (rattle _) refl (omega arith)
+    (own (read 9 1) (rattle _) refl (omega arith)
+    (own (read 11 1) (rattle _) refl (omega arith)
+    (own (resize narrow) (rattle _) refl (omega arith)
+    nothing))))))
+    refl
+
+-- by the theorems, of lists with resizes in them: all else in demand 3
+pub resized_else :
+    (2 ≤ 2)
+    × (1 ≤ 3)
+    × (3 ≤ 1 + 2)
+    × (◌≡◌ {A = ℕ} 8 8)
+    × (2 ≤ 3)
+    × (0 < 3)
+    × (3 ≤ 3)
+    × GivenSince resized_events resized_end 5 1
+    × GivenSince resized_events resized_end 13 3
+unfolding computing
+resized_else =
+    let d = demand3 (dirty 2) resized_end resized_events refl resized_whole in (
+      d.untracked 7 refl,
+      d.not_below 1 (omega arith) refl,
+      d.not_above 1 (omega arith) refl,
+      d.total,
+      d.few,
+      (d.current 1 1 (omega arith) refl).0,
+      (d.current 1 1 (omega arith) refl).1,
+      given_since (dirty 2) resized_end resized_events refl resized_whole 0 0 (omega arith) refl,
+      given_since (dirty 2) resized_end resized_events refl resized_whole 1 1 (omega arith) refl,
+    )
+
+-- 5 is wanted with ticket 1, and resized; an update overtakes the fetch, and there is another resize
+abbrev moved_events : List Event
+moved_events = happened (resize 2) false 1 ∷ happened (update 5 1) false 1 ∷ happened (resize 3) false 2 ∷ []
+
+abbrev moved_before : Memory
+moved_before = (call_outcome (resize narrow) (call_outcome (read 5 3) cleared).after).after
+
+abbrev moved_end : Memory
+moved_end = (call_outcome (resize wide) (call_outcome (update 5 1) moved_before).after).after
+
+moved_list : Follows (call_outcome (read 5 3) cleared).after moved_events moved_end
+unfolding computing
+moved_list =
+    own (resize narrow) (rattle _) refl (omega arith)
+    (own (update 5 1) (rattle _) refl (omega arith)
+    (own (resize wide) (rattle _) refl (omega arith)
+    nothing))
+
+moved_whole : Follows cleared (happened (read 5 3) false 0 ∷ moved_events) moved_end
+unfolding computing
+moved_whole = own (read 5 3) (rattle _) refl (omega arith) moved_list
+
+pub moved_refused : (picture : List ℕ) →
+    (is_refused (fill_outcome moved_end 5 picture 1).answer ≡ true) × (is_refused (fill_outcome moved_end 5 picture 1).answer ≡ true)
+unfolding computing
+moved_refused picture = (
+  late_fills_refused (dirty 2) moved_end (happened (read 5 3) false 0 ∷ moved_events) refl moved_whole 5 picture 1 (omega arith),
+  overtaken_refused (dirty 2) cleared [] refl nothing (rattle _) moved_end moved_events 5 3 0 1 picture refl (omega arith) refl
+      moved_list refl,
+)
+
+-- two times 2 are more than the total of 3, so that 5 is in the table; which is in order; and a withdrawal leaves the ceiling
+pub moved_else :
+    (key_record 5 (places moved_end) (size moved_end) ≢ None)
+    × (plain_verdict moved_end ≡ Ok tt)
+    × Removed moved_end (memory_of (made (withdraw 5) (rattle moved_end)).after) 5 false
+unfolding computing
+moved_else =
+    let es = happened (read 5 3) false 0 ∷ moved_events in (
+      heavy_hitters_tracked (dirty 2) moved_end es refl moved_whole 5 (omega arith),
+      stays_in_order (dirty 2) moved_end es refl moved_whole,
+      withdrawals_leave (dirty 2) moved_end es refl moved_whole 5 (rattle moved_end) refl (omega arith),
+    )
+
+-- a list's resize is the call that a host makes: what it is told, and what it finds where it was accepted; a ticket's bytes stay
+pub any_resize_told : (target : HostMemory) (h : HostRead) →
+    (number_told (host_made (resize target) h).answer ≡ (exported_resize h.memory target).answer)
+    × ((host_made (resize target) h).after.ticket ≡ h.ticket)
+    × (was_refused (host_made (resize target) h).answer ≡ false →
+    (host_made (resize target) h).after.memory ≡ (exported_resize h.memory target).after)
+unfolding host_made number_told exported_resize
+any_resize_told target h = (refl, refl, λ e. (moving_accepted h.memory (hosted_resize h.memory target) e).1)
+
+-- what the replay makes of a resize, of any truth, refused or not
+pub any_resize_heard : (t : Truth) (records : ℕ) →
+    (heard_truth t (heard (resize records) false)
+    ≡ record { total = t.total; heat = t.heat; picture = t.picture; fewest = min t.fewest records })
+    × (heard_truth t (heard (resize records) true) ≡ t)
+unfolding computing
+any_resize_heard t records = (refl, refl)
+
+-- and puts nothing into a ticket's bytes
+pub done_puts_nothing : (c : Completion) (h : HostRead) → ticket_put (completed c) (host h) ≡ host h
+unfolding ticket_put
+done_puts_nothing c h = refl
+
+-- it makes no ticket stale
+pub any_resize_stales : (records serial : ℕ) (stale : ℕ → ℕ) (key : ℕ) (es : List Event) →
+    (event_stale stale (happened (resize records) false serial) ≡ stale)
+    × (voided key (happened (resize records) false serial ∷ es) ≡ voided key es)
+unfolding computing
+any_resize_stales records serial stale key es = (refl, refl)
+
 -- class 7, never updated, filled at the last place on the second line
 abbrev last_events : List Event
 last_events =
@@ -600,13 +842,37 @@ host_given_lem =
     last_list 2 1 (omega arith) refl
 
 -- told 10, a host finds all as it was
-pub spent_leaves : (h : HostRead) → IsBytes h.memory.gauge → number_of (host_made (update 5 1) h).answer ≡ 10 →
+pub spent_leaves : (h : HostRead) → IsBytes h.memory.gauge → number_told (host_made (update 5 1) h).answer ≡ 10 →
     (host_made (update 5 1) h).after ≡ h
-spent_leaves h bytes told = small_number_leaves (update 5 1) h bytes (omega arith)
+spent_leaves h bytes told = small_number_leaves (update 5 1) h bytes (omega arith) (omega arith)
 
-pub spent_withdrawal_leaves : (h : HostRead) → IsBytes h.memory.gauge → number_of (host_made (withdraw 5) h).answer ≡ 10 →
+pub spent_withdrawal_leaves : (h : HostRead) → IsBytes h.memory.gauge → number_told (host_made (withdraw 5) h).answer ≡ 10 →
     (host_made (withdraw 5) h).after ≡ h
-spent_withdrawal_leaves h bytes told = small_number_leaves (withdraw 5) h bytes (omega arith)
+spent_withdrawal_leaves h bytes told = small_number_leaves (withdraw 5) h bytes (omega arith) (omega arith)
+
+-- a number of 1 to 99 is a refusal's, and no other
+pub any_told_apart : (c : Call) (lent : Lent) →
+    (was_refused (made c lent).answer ≡ true → (1 ≤ number_told (made c lent).answer) × (number_told (made c lent).answer < 100))
+    × (was_refused (made c lent).answer ≡ false → number_told (made c lent).answer < 100 → number_told (made c lent).answer ≡ 0)
+any_told_apart c lent =
+    let told = told_by_number c lent in (
+      λ e.
+          let (first, second) = both (leb 1 (number_told (made c lent).answer)) (ltb (number_told (made c lent).answer) 100) (rw e at told) in
+          (leb-true _ _ first, ltb-true _ _ second),
+      λ e few. elim (dec_lt 0 (number_told (made c lent).answer)) [
+        | yes l ↦ absurd (true≢false (sym (rw (le-leb 1 (number_told (made c lent).answer) l, lt-ltb (number_told (made c lent).answer) 100 few) at (sym (rw e at told)))))
+        | no l ↦ omega arith
+      ],
+    )
+
+-- told 1 or 99, of a resize too
+pub small_leaves : (target : HostMemory) (h : HostRead) → IsBytes h.memory.gauge →
+    (number_told (host_made (resize target) h).answer ≡ 1 → (host_made (resize target) h).after ≡ h)
+    × (number_told (host_made (resize target) h).answer ≡ 99 → (host_made (resize target) h).after ≡ h)
+small_leaves target h bytes = (
+  λ told. small_number_leaves (resize target) h bytes (omega arith) (omega arith),
+  λ told. small_number_leaves (resize target) h bytes (omega arith) (omega arith),
+)
 
 -- any accepted update of a class is seen, whatever comes after it, and makes the tickets up to the serial that it found stale
 pub any_update_seen : (key w serial : ℕ) (es : List Event) → voided key (happened (update key w) false serial ∷ es) ≡ true
@@ -641,12 +907,9 @@ unfolding computing
 updates_seen = (refl, refl, refl, refl)
 
 -- ---- the sample, as a host is told of it, and what it finds in a ticket's bytes
-abbrev told_host : List Event → HostRead → List ℕ
+abbrev told_host : List Call → HostRead → List ℕ
 told_host [] h = []
-told_host (e ∷ es) h =
-    number_of (host_made e.heard.call h).answer
-    ∷ get64 (host_made e.heard.call h).after.ticket 0
-    ∷ told_host es (host_made e.heard.call h).after
+told_host (c ∷ cs) h = number_told (host_made c h).answer ∷ get64 (host_made c h).after.ticket 0 ∷ told_host cs (host_made c h).after
 
 pub thirteen_numbers : told_host sample_calls (read_lent (host_start 24) (replicate 8 0))
     ≡ 4000 ∷ 1 ∷ 103 ∷ 1 ∷ 2000 ∷ 1 ∷ 104 ∷ 1 ∷ 4000 ∷ 2 ∷ 104 ∷ 2 ∷ 104 ∷ 2 ∷ 101 ∷ 2 ∷ 102 ∷ 2 ∷ 5 ∷ 2 ∷ 100 ∷ 2 ∷ 104 ∷ 2 ∷ 4000 ∷ 4 ∷ []

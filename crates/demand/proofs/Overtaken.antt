@@ -13,7 +13,7 @@ use Rattle.rules.specs.declared.Answer.TheVariants.{Wanted}
 use Rattle.rules.specs.Refusals.{number}
 use Rattle.rules.specs.Pass.{Found}
 use Rattle.rules.specs.Table.{Memory, is_lined, is_filled, line_of, key_record, places, size}
-use Rattle.rules.specs.Answers.{Completion, is_refused, answer_number, number_of, values_of, Said, said, answer_said}
+use Rattle.rules.specs.Answers.{Reply, Completion, is_refused, answer_number, number_of, values_of, Said, said, answer_said}
 use Rattle.rules.specs.Steps.{outcome, read_steps, fill_steps}
 use Rattle.rules.specs.Calls.{verdict, held, stored, hosted, hosted_read, read_lent, put_ticket, number_test, gauge_test, unless, leaving, read_verdict, read_outcome, fill_verdict, fill_outcome}
 use Rattle.rules.specs.Numbers.{refusal, standing, read_said}
@@ -24,7 +24,7 @@ use Rattle.rules.proofs.Answered.{read_said_lem}
 use Rattle.rules.proofs.Invariant.{Holds}
 use Rattle.rules.proofs.FillHolds.{late_fill_refused}
 use Rattle.rules.proofs.FreshHolds.{fresh_holds}
-use Rattle.demand.specs.List.{read, key_of, call_outcome, Lent, rattle, host, memory_of, host_made, made, told as told_heard, replay, stale_from}
+use Rattle.demand.specs.List.{read, Replied, answered, completed, was_refused, key_of, call_outcome, Lent, rattle, host, memory_of, host_made, made, told as told_heard, replay, stale_from}
 use Rattle.demand.specs.Demand3.{OvertakenRefused, AfterEveryList}
 use Rattle.demand.proofs.EveryList.{made_accepted, own_holds, list_holds}
 use Rattle.demand.proofs.Since.{stale_voided}
@@ -70,12 +70,20 @@ module _ (m : Memory) (key w n ticket : ℕ) (t : Truth) (stale : ℕ → ℕ) w
       go (Ok u) h e s = stood (read_steps m key w).after h _ refl s
       go (Err cause) h e s = absurd (omega (arith, ap (λ (s : Said). length s.values) s))
 
+-- one reply, one answer
+replied_is : {a b : Reply} → answered a ≡ answered b → a ≡ b
+replied_is {a} e = ap reply_of e
+  where
+    reply_of : Replied → Reply
+    reply_of (answered r) = r
+    reply_of (completed c) = a
+
 -- a host is told what a Rattle caller is
-wanted_held : (lent : Lent) (key w n ticket : ℕ) → (made (read key w) lent).answer ≡ Ok (Wanted n ticket) →
+wanted_held : (lent : Lent) (key w n ticket : ℕ) → (made (read key w) lent).answer ≡ answered (Ok (Wanted n ticket)) →
     (read_outcome (memory_of lent) key w).answer ≡ Ok (Wanted n ticket)
 unfolding made memory_of call_outcome host_made hosted_read hosted unless is_refused
-wanted_held (rattle m) key w n ticket e = e
-wanted_held (host h) key w n ticket e = whole (verdict (number_test h.ticket ∷ [])) e
+wanted_held (rattle m) key w n ticket e = replied_is e
+wanted_held (host h) key w n ticket e = whole (verdict (number_test h.ticket ∷ [])) (replied_is e)
   where
     gauged : (v : Completion) →
         (unless v (leaving h.memory) (outcome (read_outcome (held h.memory) key w).answer (stored h.memory (read_outcome (held h.memory) key w).after))).answer ≡ Ok (Wanted n ticket) →
@@ -84,8 +92,8 @@ wanted_held (host h) key w n ticket e = whole (verdict (number_test h.ticket ∷
     gauged (Err cause) e = absurd (true≢false (ap is_refused e))
 
     whole : (v : Completion) →
-        (unless v (leaving h) (outcome (hosted (call_outcome (read key w)) h.memory).answer
-        (read_lent (hosted (call_outcome (read key w)) h.memory).after (put_ticket h.ticket (hosted (call_outcome (read key w)) h.memory).answer)))).answer ≡ Ok (Wanted n ticket) →
+        (unless v (leaving h) (outcome (hosted (λ m. read_outcome m key w) h.memory).answer
+        (read_lent (hosted (λ m. read_outcome m key w) h.memory).after (put_ticket h.ticket (hosted (λ m. read_outcome m key w) h.memory).answer)))).answer ≡ Ok (Wanted n ticket) →
         (read_outcome (held h.memory) key w).answer ≡ Ok (Wanted n ticket)
     whole (Ok u) e = gauged (verdict (gauge_test h.memory ∷ [])) e
     whole (Err cause) e = absurd (true≢false (ap is_refused e))
@@ -104,7 +112,7 @@ overtaken_refused m told es done lead lent end later key w n ticket picture same
     go : (v : Completion) → is_refused (unless v (leaving end) (fill_steps end key picture ticket)).answer ≡ true
     go (Ok u) =
         let k = own_holds (read key w) lent _ _ h same fits in
-        let after = (made_accepted (read key w) lent _ _ here fits (ap is_refused wants)).1 in
+        let after = (made_accepted (read key w) lent _ _ here fits (ap was_refused wants)).1 in
         let given = told_given (memory_of lent) key w n ticket _ _ here.bytes fits (rw after at k) (wanted_held lent key w n ticket wants) in
         late_fill_refused end _ _ key picture ticket (list_holds _ _ k rest) (omega (arith, given, ap (λ (m : Memory). m.gauge.serial) after, stale_voided _ _ key k rest changes))
     go (Err cause) = refl

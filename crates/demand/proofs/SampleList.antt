@@ -7,11 +7,10 @@ use native.Mathlib.Omega.{arith}
 use lib.ListN.{replicate}
 use Rattle.std.specs.Prelude.{Ok}
 use Rattle.rules.specs.Table.{Memory, size}
-use Rattle.rules.specs.Answers.{is_refused}
 use Rattle.rules.specs.Calls.{read_lent, fresh_outcome}
 use Rattle.rules.specs.Replay.{unheard}
 use Rattle.rules.specs.Sample.{sample_picture, sample_lent, sample_end, host_start}
-use Rattle.demand.specs.List.{read, update, fill, age, Call, key_of, call_outcome, rattle, host, host_made, Event, event, told, Follows, nothing, own, elsewhere, replay}
+use Rattle.demand.specs.List.{read, update, fill, age, Call, was_refused, key_of, call_outcome, rattle, host, host_made, Event, event, told, Follows, nothing, own, elsewhere, replay}
 use Rattle.demand.specs.Demand3.{Demand3}
 use Rattle.demand.specs.Sample.{sample_events}
 use Rattle.demand.proofs.Computing.{computing}
@@ -19,7 +18,7 @@ use Rattle.demand.proofs.EveryList.{demand3}
 
 -- a Rattle caller's call, lent what the call before it left
 by_rattle : {m end : Memory} {es : List Event} (c : Call) → key_of c < 2 ^ 64 → Follows (call_outcome c m).after es end →
-    Follows m (event c (is_refused (call_outcome c m).answer) m ∷ es) end
+    Follows m (event c (was_refused (call_outcome c m).answer) m ∷ es) end
 unfolding computing
 by_rattle {m} c fits = own c (rattle m) refl fits
 

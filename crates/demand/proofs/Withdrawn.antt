@@ -14,7 +14,7 @@ use Rattle.rules.proofs.Invariant.{Holds}
 use Rattle.rules.proofs.Serials.{withdraw_keeps}
 use Rattle.rules.proofs.Verdicts.{withdraw_accepted, accepted_verdict}
 use Rattle.rules.proofs.WithdrawHolds.{withdraw_gone}
-use Rattle.demand.specs.List.{withdraw, key_of, call_outcome, Lent, memory_of, made, told, replay, stale_up_to}
+use Rattle.demand.specs.List.{withdraw, was_refused, key_of, call_outcome, Lent, memory_of, made, told, replay, stale_up_to}
 use Rattle.demand.specs.Demand3.{Removed, WithdrawalsLeave, AfterEveryList}
 use Rattle.demand.proofs.EveryList.{made_accepted, refused_stays, after_list}
 
@@ -27,11 +27,11 @@ accepted_gone m key t stale h ok =
     rw v (key_nowhere _ _ key (withdraw_gone m t stale key h (withdraw_accepted m v)))
 
 made_withdrawn : (key : ℕ) (lent : Lent) (t : Truth) (stale : ℕ → ℕ) → Holds (memory_of lent) t stale → key < 2 ^ 64 →
-    Removed (memory_of lent) (memory_of (made (withdraw key) lent).after) key (is_refused (made (withdraw key) lent).answer)
+    Removed (memory_of lent) (memory_of (made (withdraw key) lent).after) key (was_refused (made (withdraw key) lent).answer)
 unfolding call_outcome key_of
-made_withdrawn key lent t stale h fits = go (is_refused (made (withdraw key) lent).answer) refl
+made_withdrawn key lent t stale h fits = go (was_refused (made (withdraw key) lent).answer) refl
   where
-    go : (b : Bool) → is_refused (made (withdraw key) lent).answer ≡ b →
+    go : (b : Bool) → was_refused (made (withdraw key) lent).answer ≡ b →
         Removed (memory_of lent) (memory_of (made (withdraw key) lent).after) key b
     go true e =
         let same = refused_stays (withdraw key) lent t stale h e in

@@ -4,11 +4,12 @@ use Rattle.std.proofs.Math.Option.{some}
 use Rattle.rules.specs.Bytes.{line_at}
 use Rattle.rules.specs.Table.{Memory, is_tracked, is_unlined, is_lined, filled_state, key_record, places, size}
 use Rattle.rules.specs.Answers.{is_refused}
-use Rattle.rules.specs.Steps.{levelled_sum}
+use Rattle.rules.specs.Pass.{count_where, sum_where}
+use Rattle.rules.specs.Steps.{level, levelled_sum}
 use Rattle.rules.specs.declared.Answer.TheVariants.{Wanted}
 use Rattle.rules.specs.Calls.{plain_verdict, fill_outcome, fresh_outcome}
 use Rattle.rules.specs.Replay.{filled_with, Truth, unheard}
-use Rattle.demand.specs.List.{read, withdraw, Lent, memory_of, made, Event, told, Follows, replay, stale_up_to, voided, next_serial}
+use Rattle.demand.specs.List.{read, withdraw, answered, was_refused, Lent, memory_of, made, Event, told, Follows, replay, stale_up_to, voided, next_serial}
 
 pub record Demand3 (m : Memory) (truth : Truth) (es : List Event) : Type 0 where
   -- | the lines hold the hottest: no tracked class off the lines is hotter (more heat in the table) than one on them
@@ -20,10 +21,13 @@ pub record Demand3 (m : Memory) (truth : Truth) (es : List Event) : Type 0 where
       (places m i).heat ≤ truth.heat (places m i).key + (places m i).slack
   -- | the ceiling bounds the untracked: a class not in the table is an untracked key
   pub untracked : (key : ℕ) → key_record key (places m) (size m) ≡ None → truth.heat key ≤ m.gauge.ceiling
-  -- | Its records are K
-  pub few : truth.fewest ≡ size m
-  -- | records × ceiling ≤ total
+  -- | the smallest record count since fresh (document 02)
+  pub few : truth.fewest ≤ size m
+  -- | records × ceiling ≤ total. .. After resizing, the product with the ceiling .. [uses] the smallest record count since fresh
   pub product : truth.fewest * m.gauge.ceiling ≤ m.gauge.total
+  -- | and the levelled sum's bound .., the sum over any that many records (document 02)
+  pub levelled : (chosen : ℕ → Bool) → count_where chosen (size m) ≡ truth.fewest →
+      sum_where chosen (level m.gauge.ceiling) (places m) (size m) ≤ m.gauge.total
   -- | The gauge's total equals the true total.
   pub total : m.gauge.total ≡ truth.total
   -- | Line n is filled if a record's state is 3 + 2 × n, and its class is that record's key. .. its 64 bytes must equal that key's
@@ -38,17 +42,18 @@ pub record Demand3 (m : Memory) (truth : Truth) (es : List Event) : Type 0 where
       (stale_up_to es (places m i).key < (places m i).ticket) × ((places m i).ticket ≤ m.gauge.serial)
 
 -- | It never exceeds the total after a list as in demand 3.
+-- The sum over all K records, that is, where no resize has made K greater than it was once before; `levelled` bounds it after any list.
 abbrev pub LevelledBound : Memory → Truth → List Event → Type 0
-LevelledBound m truth es = levelled_sum m ≤ m.gauge.total
+LevelledBound m truth es = truth.fewest ≡ size m → levelled_sum m ≤ m.gauge.total
 
 -- The tests of sizes and order pass, so that no later call is refused with 3.
 abbrev pub StaysInOrder : Memory → Truth → List Event → Type 0
 StaysInOrder m truth es = plain_verdict m ≡ Ok tt
 
--- Space-Saving's own guarantee: a class with more true heat than a K-th of the total is in the table.
+-- Space-Saving's own guarantee: a class with more true heat than a K-th of the total is in the table, K being the smallest since fresh.
 abbrev pub HeavyHittersTracked : Memory → Truth → List Event → Type 0
 HeavyHittersTracked m truth es =
-    (key : ℕ) → m.gauge.total < size m * truth.heat key → key_record key (places m) (size m) ≢ None
+    (key : ℕ) → m.gauge.total < truth.fewest * truth.heat key → key_record key (places m) (size m) ≢ None
 
 -- | whose ticket was given by the last accepted update of its class, if any, or after it
 -- A call gives the tickets over the serial that it found, up to the one that the next call finds. This one gave the ticket; it was
@@ -79,7 +84,7 @@ LateFillsRefused m truth es =
 abbrev pub OvertakenRefused : Memory → Truth → List Event → Type 0
 OvertakenRefused m truth es =
     (lent : Lent) (end : Memory) (later : List Event) (key w n ticket : ℕ) (picture : List ℕ) → memory_of lent ≡ m → key < 2 ^ 64 →
-    (made (read key w) lent).answer ≡ Ok (Wanted n ticket) → Follows (memory_of (made (read key w) lent).after) later end →
+    (made (read key w) lent).answer ≡ answered (Ok (Wanted n ticket)) → Follows (memory_of (made (read key w) lent).after) later end →
     voided key later ≡ true → is_refused (fill_outcome end key picture ticket).answer ≡ true
 
 -- | a withdrawal leaves the ceiling (document 02)
@@ -92,7 +97,7 @@ pub record Removed (m after : Memory) (key : ℕ) (refused : Bool) : Type 0 wher
 abbrev pub WithdrawalsLeave : Memory → Truth → List Event → Type 0
 WithdrawalsLeave m truth es =
     (key : ℕ) (lent : Lent) → memory_of lent ≡ m → key < 2 ^ 64 →
-    Removed m (memory_of (made (withdraw key) lent).after) key (is_refused (made (withdraw key) lent).answer)
+    Removed m (memory_of (made (withdraw key) lent).after) key (was_refused (made (withdraw key) lent).answer)
 
 -- | The list starts from a fresh table and gauge; the lines may hold any bytes.
 -- Fresh accepts every K from 1 to 1,024 and every C below K (`fresh_accepts`), so m stands for all that a list can start with.

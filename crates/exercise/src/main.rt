@@ -1,6 +1,6 @@
 // Runs what a Rattle caller can call and nothing else here runs, and prints what each call gives: fresh on memory that is not zero,
-// show, the levelled sum, the calls on a gauge that the caller holds, looks and withdrawals among them, a late fill, a serial that is
-// spent, a key's store by a ring, the ends of epochs, the journal's reader, and a run whose rows have no room.
+// show, the levelled sum, the calls on a gauge that the caller holds, looks and withdrawals among them, a late fill, resizes, a serial
+// that is spent, a key's store by a ring, the ends of epochs, the journal's reader, and a run whose rows have no room.
 #![tactic(auto)]
 
 use journal::{ENTRY_SIZE, decode, first_two};
@@ -83,15 +83,27 @@ impl fmt::Display for Bytes<'_> {
 
 // ---- the calls
 
-// Fresh, and the memory that it leaves.
-fn start(rt: &impl Print, table: &mut [u8], gauge: &mut Gauge, lines: &[u8]) -> io::Result<()> {
-    match cache::fresh(table, gauge, lines) {
-        Ok(()) => print!(rt; "fresh: done")?,
-        Err(cause) => print!(rt; "fresh: {cause}")?,
+// Whether a call is done, and the memory that it leaves.
+fn left(
+    rt: &impl Print,
+    call: &str,
+    completion: Result<(), Refusal>,
+    table: &[u8],
+    gauge: Gauge,
+    lines: &[u8],
+) -> io::Result<()> {
+    match completion {
+        Ok(()) => print!(rt; "{call}: done")?,
+        Err(cause) => print!(rt; "{call}: {cause}")?,
     }
-    println!(rt; "; {}", Stands(*gauge))?;
+    println!(rt; "; {}", Stands(gauge))?;
     println!(rt; "table{}", Bytes(table))?;
     println!(rt; "lines{}", Bytes(lines))
+}
+
+fn start(rt: &impl Print, table: &mut [u8], gauge: &mut Gauge, lines: &[u8]) -> io::Result<()> {
+    let completion = cache::fresh(table, gauge, lines);
+    left(rt, "fresh", completion, table, *gauge, lines)
 }
 
 fn show(rt: &impl Print, table: &[u8], gauge: Gauge, lines: &[u8], key: u64) -> io::Result<()> {
@@ -218,6 +230,33 @@ fn withdrawn(rt: &impl Print, hub: &mut Hub) -> io::Result<()> {
     hub.withdraw(rt, 5)?;
     hub.read(rt, 5, 1)?;
     sum(rt, &hub.table, hub.gauge, &hub.lines)
+}
+
+// What a hub holds, resized into other memory.
+fn resize(rt: &impl Print, hub: &Hub, to_table: &mut [u8], to_lines: &mut [u8]) -> io::Result<()> {
+    let mut to_gauge = Gauge {
+        total: 6,
+        ceiling: 7,
+        serial: 8,
+    };
+    let completion = resizing::resize(
+        &hub.table,
+        hub.gauge,
+        &hub.lines,
+        to_table,
+        &mut to_gauge,
+        to_lines,
+    );
+    left(rt, "resize", completion, to_table, to_gauge, to_lines)
+}
+
+// 5 and 11 are equally hot, and on lines; 11's is filled. Two records and one line: 5, the first, loses its line. Four and three: each
+// keeps its own. One and none: 11 is left. As many lines as records are refused.
+fn resized(rt: &impl Print, hub: &Hub) -> io::Result<()> {
+    resize(rt, hub, &mut [255u8; 80], &mut [171u8; 64])?;
+    resize(rt, hub, &mut [255u8; 160], &mut [171u8; 192])?;
+    resize(rt, hub, &mut [255u8; 40], &mut [])?;
+    resize(rt, hub, &mut [255u8; 40], &mut [171u8; 64])
 }
 
 // No more tickets can be given: a read and a withdrawal are refused, and a look is answered.
@@ -455,6 +494,7 @@ fn main(rt: HostRuntime) -> io::Result<()> {
     hub.show(&rt, 11)?;
     sum(&rt, &hub.table, hub.gauge, &hub.lines)?;
     withdrawn(&rt, &mut hub)?;
+    resized(&rt, &hub)?;
     spent(&rt, &mut hub)?;
     sums(&rt)?;
     stores(&rt)?;

@@ -17,12 +17,12 @@ use tracker::{claimable, hottest_unlined};
 
 // What a line and a heat must be (`LinesFit`, `HeatsBelow`) is a clause and no ghost field of `Hub`: it would have to be shown again at
 // each record that is written, also where nothing asks for it any more. That the serial is below its limit is a clause, too: a ticket
-// that is taken uses it up.
+// that is taken uses it up, and a resize, which takes many, may go on where the limit is passed, as long as they fit 64 bits.
 
 // The next ticket, which the gauge has given from now on.
 #[tactic(auto, unfolding(rules::specs::Steps::ticketed, rules::specs::Steps::next_ticket, rules::specs::Table::with_gauge))]
 fn take_ticket(hub: &mut Hub) -> u64
-    requires { hub.old.gauge.now.serial < serial_limit }
+    requires { next_ticket (memory hub.old) < 2 ^ 64 }
     ensures same_lent { SameLent hub.old hub.new }
     ensures memory { memory hub.new ≡ ticketed (memory hub.old) }
     ensures ticket { result ≡ next_ticket (memory hub.old) }
@@ -32,7 +32,7 @@ fn take_ticket(hub: &mut Hub) -> u64
 }
 
 // The record at place i keeps its line, and gets a new ticket.
-#[tactic(auto, unfolding(rules::specs::Steps::renew, rules::specs::Steps::ticketed, rules::specs::Table::write, rules::specs::Table::with_table, rules::specs::Table::with_gauge, rules::specs::Table::places))]
+#[tactic(auto, unfolding(rules::specs::Steps::renew, rules::specs::Steps::next_ticket, rules::specs::Steps::ticketed, rules::specs::Table::write, rules::specs::Table::with_table, rules::specs::Table::with_gauge, rules::specs::Table::places))]
 fn renew(hub: &mut Hub, i: usize)
     requires { (i < record_count hub.old.table.now) × (hub.old.gauge.now.serial < serial_limit) }
     ensures same_lent { SameLent hub.old hub.new }
@@ -44,8 +44,8 @@ fn renew(hub: &mut Hub, i: usize)
 
 // The record at place i takes a line, empty, with a new ticket.
 #[tactic(auto, unfolding(rules::specs::Table::empty_state, rules::specs::Steps::give_line, rules::specs::Steps::ticketed, rules::specs::Table::write, rules::specs::Table::with_table, rules::specs::Table::with_gauge, rules::specs::Table::places))]
-fn give_line(hub: &mut Hub, i: usize, line: usize)
-    requires { (i < record_count hub.old.table.now) × (empty_state line < 2 ^ 64) × (hub.old.gauge.now.serial < serial_limit) }
+pub fn give_line(hub: &mut Hub, i: usize, line: usize)
+    requires { (i < record_count hub.old.table.now) × (empty_state line < 2 ^ 64) × (next_ticket (memory hub.old) < 2 ^ 64) }
     ensures same_lent { SameLent hub.old hub.new }
     ensures memory { memory hub.new ≡ give_line (memory hub.old) i line }
 {
@@ -54,7 +54,7 @@ fn give_line(hub: &mut Hub, i: usize, line: usize)
 }
 
 // A record becomes one without a line, and its line goes to another.
-#[tactic(auto, unfolding(rules::specs::Bytes::record_count, rules::specs::Table::is_lined, rules::specs::Table::line_of, rules::specs::Table::empty_state, rules::specs::Steps::hand_on, rules::specs::Table::write, rules::specs::Table::with_table, rules::specs::Table::places))]
+#[tactic(auto, unfolding(rules::specs::Bytes::record_count, rules::specs::Table::is_lined, rules::specs::Table::line_of, rules::specs::Table::empty_state, rules::specs::Steps::next_ticket, rules::specs::Steps::hand_on, rules::specs::Table::write, rules::specs::Table::with_table, rules::specs::Table::places))]
 fn hand_on(hub: &mut Hub, from: usize, left: Record, to: usize)
     requires { (from < record_count hub.old.table.now) × (to < record_count hub.old.table.now) × (is_lined (record_at hub.old.table.now from) ≡ true) × (hub.old.gauge.now.serial < serial_limit) }
     ensures same_lent { SameLent hub.old hub.new }
@@ -79,7 +79,7 @@ fn hand_over(hub: &mut Hub, from: usize, to: usize)
 }
 
 // Step 5: the record at place i gets a line if one is unused, or if it is hotter than the coldest on a line.
-#[tactic(auto, unfolding(rules::specs::Table::empty_state, rules::specs::Steps::admit, rules::specs::Table::places, rules::specs::Table::size, rules::specs::Table::line_total, rules::specs::Bytes::line_count, rules::specs::Steps::promote, rules::specs::Steps::replace_coldest, rules::specs::Table::is_lined, rules::specs::Table::line_of, rules::specs::Table::hotter))]
+#[tactic(auto, unfolding(rules::specs::Table::empty_state, rules::specs::Steps::next_ticket, rules::specs::Steps::admit, rules::specs::Table::places, rules::specs::Table::size, rules::specs::Table::line_total, rules::specs::Bytes::line_count, rules::specs::Steps::promote, rules::specs::Steps::replace_coldest, rules::specs::Table::is_lined, rules::specs::Table::line_of, rules::specs::Table::hotter))]
 pub fn admit(hub: &mut Hub, i: usize)
     requires { (i < record_count hub.old.table.now) × LinesFit (memory hub.old) × HeatsBelow (memory hub.old) × (hub.old.gauge.now.serial < serial_limit) }
     ensures same_lent { SameLent hub.old hub.new }

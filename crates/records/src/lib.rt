@@ -105,8 +105,9 @@ pub fn line_at(lines: &[u8], n: usize) -> &[u8]
     &lines[at..at + LINE_SIZE]
 }
 
-// Line n becomes a picture.
+// Line n becomes a picture. (Inlined: a fill is run often, and takes no call for it.)
 #[tactic(auto, unfolding(rules::specs::Bytes::line_count, rules::specs::Bytes::put_line))]
+#[inline(always)]
 pub fn put_line(lines: &mut [u8], n: usize, picture: &[u8; LINE_SIZE])
     requires { n < line_count lines.old }
     ensures { lines.new ≡ put_line lines.old n picture.now }

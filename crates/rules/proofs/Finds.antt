@@ -148,6 +148,9 @@ module _ (f : ℕ → Record) (n : ℕ) where
         );
       }
 
+  pub victim_inside : (i : ℕ) (r : Record) → Some (i, r) ≡ victim f n → i < n
+  victim_inside i r e = (victim_found i r (sym e)).inside
+
   pub victim_missing : victim f n ≡ None → (j : ℕ) → j < n → (f j).state ≢ 1
   unfolding victim is_unlined
   victim_missing e j below = eqb-false _ _ (best_nowhere is_unlined leaves leaves_over leaves_one_way leaves_never f n e j below)
@@ -169,6 +172,9 @@ module _ (f : ℕ → Record) (n : ℕ) where
           λ j below lined. rw h.is at (ltb-false (f j).heat r.heat (h.unbeaten j below (lt-ltb _ _ lined))),
         );
       }
+
+  pub coldest_inside : (i : ℕ) (r : Record) → Some (i, r) ≡ coldest_lined f n → i < n
+  coldest_inside i r e = (coldest_found i r (sym e)).inside
 
   pub coldest_first : (i : ℕ) (r : Record) → coldest_lined f n ≡ Some (i, r) → (j : ℕ) → j < i → 1 < (f j).state → r.heat < (f j).heat
   unfolding colder is_lined

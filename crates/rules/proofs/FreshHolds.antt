@@ -75,7 +75,7 @@ module _ (m : Memory) where
         not_below = λ i _ tracked. absurd (omega (arith, zero_state i));
         not_above = λ i _ tracked. absurd (omega (arith, zero_state i));
         untracked = λ key _. omega arith;
-        few = rw fresh_size refl;
+        few = rw fresh_size (omega arith);
         levels = λ chosen _. zero_levels chosen (size (fresh_memory m));
         total = refl;
       }

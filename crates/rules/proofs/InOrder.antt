@@ -8,7 +8,7 @@ use mathlib.Core.Logic.{◌≢◌}
 use native.Mathlib.Nat.{le_trans}
 use native.Mathlib.Decide.{dec_lt, ℕ_discrete}
 use native.Mathlib.Omega.{arith}
-use borrow.Author.Tests.{lt-ltb, le-ltb, le-leb, eq-eqb, ltb-false, leb-true}
+use borrow.Author.Tests.{lt-ltb, le-ltb, le-leb, eq-eqb, ltb-false, leb-true, eqb-true}
 use lib.Dec.{ltb, eqb}
 use Rattle.rules.specs.declared.Record.{Record}
 use Rattle.rules.specs.declared.Gauge.{Gauge}
@@ -102,32 +102,56 @@ lined_or_unticketed r none =
       | no off ↦ rw (eq-eqb r.ticket 0 (none (omega arith))) (or-true (ltb 1 r.state))
     ]
 
-pub tracks_in_order : (f : ℕ → Record) (n c : ℕ) (g : Gauge) (t : Truth) → Tracks f n c g t → in_order f n c g ≡ true
-unfolding in_order record_in_order
-tracks_in_order f n c g t s =
-    rw (
-      le-leb g.total most_total s.total_most,
-      le-leb g.ceiling g.total s.ceiling_most,
-      all_of_lem (record_in_order g.total c) f n each,
-    )
-    (le-leb (count_of is_lined f n) c (lined_most f n c s.state_most s.lines_apart))
-  where
-    each : (i : ℕ) → i < n → record_in_order g.total c (f i) ≡ true
-    each i inside =
-        rw (
-          le-leb (f i).heat g.total (s.heat_most i inside),
-          le-leb (f i).state (1 + 2 * c) (s.state_most i inside),
-          tracked_or_zero (f i) (s.free_zero i inside),
-        )
-        (lined_or_unticketed (f i) (s.unlined_ticket i inside))
-
 -- what a table in order has, by place
 pub record Ordered (f : ℕ → Record) (n c : ℕ) (g : Gauge) : Type 0 where
   pub total_most : g.total ≤ most_total
   pub ceiling_most : g.ceiling ≤ g.total
   pub heat_most : (i : ℕ) → i < n → (f i).heat ≤ g.total
   pub state_most : (i : ℕ) → i < n → (f i).state ≤ 1 + 2 * c
+  pub free_zero : (i : ℕ) → i < n → (f i).state ≡ 0 → is_zero (f i) ≡ true
+  pub unlined_ticket : (i : ℕ) → i < n → (f i).state ≤ 1 → (f i).ticket ≡ 0
   pub lined_most : count_of is_lined f n ≤ c
+
+pub ordered_in_order : (f : ℕ → Record) (n c : ℕ) (g : Gauge) → Ordered f n c g → in_order f n c g ≡ true
+unfolding in_order record_in_order
+ordered_in_order f n c g o =
+    rw (
+      le-leb g.total most_total o.total_most,
+      le-leb g.ceiling g.total o.ceiling_most,
+      all_of_lem (record_in_order g.total c) f n each,
+    )
+    (le-leb (count_of is_lined f n) c o.lined_most)
+  where
+    each : (i : ℕ) → i < n → record_in_order g.total c (f i) ≡ true
+    each i inside =
+        rw (
+          le-leb (f i).heat g.total (o.heat_most i inside),
+          le-leb (f i).state (1 + 2 * c) (o.state_most i inside),
+          tracked_or_zero (f i) (o.free_zero i inside),
+        )
+        (lined_or_unticketed (f i) (o.unlined_ticket i inside))
+
+pub tracks_in_order : (f : ℕ → Record) (n c : ℕ) (g : Gauge) (t : Truth) → Tracks f n c g t → in_order f n c g ≡ true
+tracks_in_order f n c g t s =
+    ordered_in_order f n c g
+    record {
+      total_most = s.total_most;
+      ceiling_most = s.ceiling_most;
+      heat_most = s.heat_most;
+      state_most = s.state_most;
+      free_zero = s.free_zero;
+      unlined_ticket = s.unlined_ticket;
+      lined_most = lined_most f n c s.state_most s.lines_apart;
+    }
+
+-- a record that is free, and one that has no line
+zero_if_free : (r : Record) → (is_tracked r || is_zero r) ≡ true → r.state ≡ 0 → is_zero r ≡ true
+unfolding is_tracked
+zero_if_free r e free = rw (le-ltb 0 r.state (omega arith)) at e
+
+unticketed : (r : Record) → (is_lined r || eqb r.ticket 0) ≡ true → r.state ≤ 1 → r.ticket ≡ 0
+unfolding is_lined
+unticketed r e off = eqb-true r.ticket 0 (rw (le-ltb 1 r.state off) at e)
 
 pub in_order_says : (f : ℕ → Record) (n c : ℕ) (g : Gauge) → in_order f n c g ≡ true → Ordered f n c g
 unfolding in_order record_in_order
@@ -135,17 +159,20 @@ in_order_says f n c g e =
     let (rest, lined) = both _ _ e in
     let (gauge, records) = both _ _ rest in
     let (total, ceiling) = both _ _ gauge in
-    let at_place : (i : ℕ) → i < n → ((f i).heat ≤ g.total) × ((f i).state ≤ 1 + 2 * c) =
+    let at_place : (i : ℕ) → i < n → ((f i).heat ≤ g.total) × ((f i).state ≤ 1 + 2 * c)
+    × ((f i).state ≡ 0 → is_zero (f i) ≡ true) × ((f i).state ≤ 1 → (f i).ticket ≡ 0) =
     λ i inside.
     let (rest, ticket) = both _ _ (all_at (record_in_order g.total c) f n records i inside) in
     let (sizes, blank) = both _ _ rest in
     let (heat, state) = both _ _ sizes in
-    (leb-true _ _ heat, leb-true _ _ state) in
+    (leb-true _ _ heat, leb-true _ _ state, zero_if_free (f i) blank, unticketed (f i) ticket) in
     record {
       total_most = leb-true _ _ total;
       ceiling_most = leb-true _ _ ceiling;
       heat_most = λ i inside. (at_place i inside).0;
       state_most = λ i inside. (at_place i inside).1;
+      free_zero = λ i inside. (at_place i inside).2;
+      unlined_ticket = λ i inside. (at_place i inside).3;
       lined_most = leb-true _ _ lined;
     }
 

@@ -31,8 +31,8 @@ pub record Tracks (f : ℕ → Record) (n c : ℕ) (g : Gauge) (t : Truth) : Typ
   pub not_below : (i : ℕ) → i < n → 0 < (f i).state → t.heat (f i).key ≤ (f i).heat
   pub not_above : (i : ℕ) → i < n → 0 < (f i).state → (f i).heat ≤ t.heat (f i).key + (f i).slack
   pub untracked : (key : ℕ) → ((i : ℕ) → i < n → 0 < (f i).state → (f i).key ≢ key) → t.heat key ≤ g.ceiling
-  -- the levels of any such choice of places
-  pub few : t.fewest ≡ n
+  -- the levels of any choice of so many places
+  pub few : t.fewest ≤ n
   pub levels : (chosen : ℕ → Bool) → count_where chosen n ≡ t.fewest → sum_where chosen (level g.ceiling) f n ≤ g.total
   pub total : g.total ≡ t.total
 

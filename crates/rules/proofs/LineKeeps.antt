@@ -24,7 +24,7 @@ unfolding is_used is_on is_lined
 used_at f n j r inside is lined =
     any_at (is_on (line_of r)) f n j inside (rw (is, lt-ltb 1 r.state lined) (eq-eqb (line_of r) (line_of r) refl))
 
-none_on : (f : ℕ → Record) (n line : ℕ) → ((j : ℕ) → j < n → 1 < (f j).state → line_of (f j) ≢ line) → is_used f n line ≡ false
+pub none_on : (f : ℕ → Record) (n line : ℕ) → ((j : ℕ) → j < n → 1 < (f j).state → line_of (f j) ≢ line) → is_used f n line ≡ false
 unfolding is_used is_on is_lined
 none_on f n line off =
     any_none (is_on line) f n
@@ -39,11 +39,11 @@ pub unused_before : (f g : ℕ → Record) (n : ℕ) → ((j : ℕ) → j < n �
 unused_before f g n each line unused =
     none_on f n line (λ j below lined e. clash (rw e at (each j below lined)) unused)
 
-line_taken : (line ticket : ℕ) (r : Record) → line_of (on_empty_line line ticket r) ≡ line
+pub line_taken : (line ticket : ℕ) (r : Record) → line_of (on_empty_line line ticket r) ≡ line
 unfolding line_of on_empty_line empty_state
 line_taken line ticket r = omega arith
 
-taken_used : (f : ℕ → Record) (n j line ticket : ℕ) (r : Record) → j < n → f j ≡ on_empty_line line ticket r → is_used f n line ≡ true
+pub taken_used : (f : ℕ → Record) (n j line ticket : ℕ) (r : Record) → j < n → f j ≡ on_empty_line line ticket r → is_used f n line ≡ true
 unfolding on_empty_line empty_state
 taken_used f n j line ticket r inside is =
     rw (line_taken line ticket r) at (used_at f n j (on_empty_line line ticket r) inside is (omega arith))

@@ -1,6 +1,6 @@
 -- A refused call leaves every byte and number that it was lent, and a call's number alone tells whether it was refused: each call's
 -- own laws, over its outcome, and what becomes of them where a C host makes the call. Assumes nothing.
-use Prim.Native.Nat.{ℕ, ◌+◌, ◌<◌}
+use Prim.Native.Nat.{ℕ, ◌+◌, ◌≤◌, ◌<◌}
 use mathlib.Core.Path.{◌≡◌, refl, sym}
 use mathlib.Core.Bool.{Bool, true, false, true≢false}
 use mathlib.Core.List.{List, [], ◌∷◌}
@@ -117,6 +117,23 @@ number_few SerialSpent = omega arith
 number_few DoubledPosition = omega arith
 number_few WrongRing = omega arith
 number_few WrongEpoch = omega arith
+
+-- 0 is none: a host is told it for done
+pub number_some : (cause : Refusal) → 1 ≤ number cause
+unfolding number
+number_some WrongSizes = omega arith
+number_some WrongWeight = omega arith
+number_some NotInOrder = omega arith
+number_some WrongPicture = omega arith
+number_some NoLine = omega arith
+number_some AlreadyFilled = omega arith
+number_some UnknownForm = omega arith
+number_some ShortEnd = omega arith
+number_some StaleTicket = omega arith
+number_some SerialSpent = omega arith
+number_some DoubledPosition = omega arith
+number_some WrongRing = omega arith
+number_some WrongEpoch = omega arith
 
 -- | a refusal's own
 pub every_told : (a : Reply) → Told a

@@ -26,7 +26,7 @@ use Rattle.rules.proofs.Serials.{withdraw_steps_give}
 use Rattle.rules.proofs.WithdrawKeeps.{freed_off, freed_tracks, freed_shows, freed_full, freed_hottest, handed_hottest}
 use Rattle.rules.proofs.CallsHold.{write_kept, places_hand, size_hand, line_few, hand_kept, staled_missing}
 
-freed_is : IsRecord freed
+pub freed_is : IsRecord freed
 unfolding freed
 freed_is = record { key = omega arith; heat = omega arith; slack = omega arith; state = omega arith; ticket = omega arith }
 

@@ -1,5 +1,5 @@
 -- The replay of demand 3: what it keeps, and what each accepted call does to it. Nothing in the table, gauge or lines is read for it;
--- its start is told K. And, which is no part of it, how a class's tickets become stale.
+-- its start is told K, and a resize the new one. And, which is no part of it, how a class's tickets become stale.
 use Rattle.std.specs.Prelude.{ℕ, ◌+◌, ◌-◌, List, ltb, eqb, if◌then◌else◌}
 use Rattle.std.proofs.Math.Option.{Option, none, some}
 use Rattle.rules.specs.Table.{half_down, most_total}
@@ -17,8 +17,7 @@ pub record Truth : Type 0 where
   pub total : ℕ
   pub heat : ℕ → ℕ
   pub picture : ℕ → Option Filled
-  -- | Its records are K
-  -- (the fewest records that the table has had; no call changes them)
+  -- | the smallest record count since fresh (document 02)
   pub fewest : ℕ
 
 -- | starting at 0, 0 and none

@@ -1,11 +1,11 @@
 // What a pass over the table finds.
 #![tactic(auto)]
 
-ghost use Rattle.std.specs.Prelude.{ℕ, Bool, ◌&&◌, ◌≡◌, ◌≤◌, ◌<◌, length, if◌then◌else◌, Some};
+ghost use Rattle.std.specs.Prelude.{ℕ, Bool, ◌&&◌, ◌≡◌, ◌≤◌, ◌<◌, length, if◌then◌else◌, Some, None};
 ghost use Rattle.rules.specs.Bytes.{record_at, record_count};
 ghost use Rattle.rules.specs.declared.Record.{Record};
-ghost use Rattle.rules.specs.Pass.{Found, first, best, first_of};
-ghost use Rattle.rules.specs.Table.{is_free, is_unlined, has_key, key_record, leaves, coldest_lined, hottest_unlined, lookup};
+ghost use Rattle.rules.specs.Pass.{Found, first, pass, best, first_of, count_of};
+ghost use Rattle.rules.specs.Table.{is_free, is_tracked, is_unlined, is_lined, has_key, key_record, colder, leaves, victim, coldest_lined, hottest_unlined, lookup};
 ghost use Rattle.rules.specs.Walk.{walk_step, walk};
 ghost use Rattle.rules.specs.Answers.{lookup_said};
 ghost use Rattle.rules.specs.Calls.{most_records};
@@ -206,6 +206,108 @@ pub fn hottest_unlined(table: &[u8]) -> Option<(usize, Record)>
         }
     }
     Some((best, record_at(table, best)))
+}
+
+// ---- what a resize looks for: it is rare, so its searches hold records
+
+// A pass over the records: a step decides by what is held, the place and the record what is held next.
+#[tactic(auto, unfolding(rules::specs::Pass::pass))]
+fn pass<F: Fn(Option<(usize, Record)>, usize, Record) -> Option<(usize, Record)>>(
+    table: &[u8],
+    step: F,
+) -> Option<(usize, Record)>
+    requires { F.IsAlwaysCallable step }
+    ensures { (s : Found → ℕ → Record → Found) → ((held i r next : _) → F.post step held i r next → next ≡ s held i r) → result ≡ pass s None (record_at table.now) (record_count table.now) }
+{
+    let mut held = None;
+    for i in 0..record_count(table) {
+        held = step(held, i, record_at(table, i));
+    }
+    held
+}
+
+// The coldest record on a line, a record further.
+#[tactic(auto, unfolding(rules::specs::Pass::best, rules::specs::Table::colder))]
+fn coldest_step(held: Option<(usize, Record)>, i: usize, r: Record) -> Option<(usize, Record)>
+    ensures { result ≡ best is_lined colder held i r }
+{
+    let is_colder = match held {
+        None => true,
+        Some((_, s)) => r.heat < s.heat,
+    };
+    if is_lined(r) && is_colder {
+        Some((i, r))
+    } else {
+        held
+    }
+}
+
+// The coldest record on a line.
+#[tactic(auto, unfolding(rules::specs::Table::coldest_lined, rules::specs::Pass::best_of))]
+pub fn coldest_lined(table: &[u8]) -> Option<(usize, Record)>
+    ensures { result ≡ coldest_lined (record_at table.now) (record_count table.now) }
+{
+    pass(table, coldest_step)
+}
+
+// The victim, a record further.
+#[tactic(auto, unfolding(rules::specs::Pass::best, rules::specs::Table::leaves, rules::specs::Table::colder))]
+fn victim_step(held: Option<(usize, Record)>, i: usize, r: Record) -> Option<(usize, Record)>
+    ensures { result ≡ best is_unlined leaves held i r }
+{
+    let leaves = match held {
+        None => true,
+        Some((_, s)) => r.heat < s.heat || (r.heat == s.heat && s.slack < r.slack),
+    };
+    if is_unlined(r) && leaves {
+        Some((i, r))
+    } else {
+        held
+    }
+}
+
+// The record without a line that leaves first.
+#[tactic(auto, unfolding(rules::specs::Table::victim, rules::specs::Pass::best_of))]
+pub fn victim(table: &[u8]) -> Option<(usize, Record)>
+    ensures { result ≡ victim (record_at table.now) (record_count table.now) }
+{
+    pass(table, victim_step)
+}
+
+// How many records pass a test.
+#[tactic(auto, unfolding(rules::specs::Pass::count_of, rules::specs::Pass::sum_of, rules::specs::Pass::pass))]
+fn count<T: Fn(Record) -> bool>(table: &[u8], test: T) -> usize
+    requires { T.IsAlwaysCallable test }
+    ensures { (p : Record → Bool) → ((r passes : _) → T.post test r passes → passes ≡ p r) → result ≡ count_of p (record_at table.now) (record_count table.now) }
+{
+    let mut counted = 0;
+    for i in 0..record_count(table) {
+        if test(record_at(table, i)) {
+            counted += 1;
+        }
+    }
+    counted
+}
+
+#[tactic(auto, unfolding(rules::specs::Table::is_tracked, rules::specs::Table::is_free))]
+fn is_tracked(r: Record) -> bool
+    ensures { result ≡ is_tracked r }
+{
+    !is_free(r)
+}
+
+// How many records are tracked.
+pub fn tracked_count(table: &[u8]) -> usize
+    ensures { result ≡ count_of is_tracked (record_at table.now) (record_count table.now) }
+{
+    count(table, is_tracked)
+}
+
+// How many records are on lines.
+pub fn lined_count(table: &[u8]) -> usize
+    ensures { result ≡ count_of is_lined (record_at table.now) (record_count table.now) }
+{
+    count(table, is_lined)
 }
 
 // ---- the line that a record gets
