@@ -37,6 +37,26 @@ for place in 16 32 48 64; do
     gcc -o "$out/scale-$place" "$out/place.o" "$out/scale.o" "$library" -lm
 done
 
+# Runs program $1 at each place, and prints its rows with the best time of the
+# library and the best of plain C, which its last columns tell, and their ratio.
+beside_plain() {
+    for place in 16 32 48 64; do
+        "$out/$1-$place" > "$out/$1-$place.txt"
+    done
+    awk -F'|' '
+        FNR < 3 { if (NR == FNR) print; next }
+        { row = $2; for (i = 3; i < NF - 3; i++) row = row "|" $i; l = $(NF - 3); p = $(NF - 2) }
+        !(row in library) { rows[++n] = row; library[row] = l; plain[row] = p }
+        l + 0 < library[row] + 0 { library[row] = l }
+        p + 0 < plain[row] + 0 { plain[row] = p }
+        END {
+            for (i = 1; i <= n; i++) {
+                row = rows[i]
+                printf "|%s|%s|%s| %5.2f |\n", row, library[row], plain[row], library[row] / plain[row]
+            }
+        }' "$out/$1"-{16,32,48,64}.txt
+}
+
 echo "machine: $(awk -F": " "/^model name/ { print \$2; exit }" /proc/cpuinfo), $(nproc) processors; $(gcc --version | head -n 1)"
 echo
 echo "Nanoseconds a call, best of all runs:"
@@ -65,36 +85,12 @@ awk -F'|' '
 echo
 echo "Nanoseconds a call that is rare, best of all runs:"
 echo
-for place in 16 32 48 64; do
-    "$out/rare-$place" > "$out/rare-$place.txt"
-done
-awk -F'|' '
-    FNR < 3 { if (NR == FNR) print; next }
-    { row = $2 "|" $3 }
-    !(row in library) { rows[++n] = row; library[row] = $4; plain[row] = $5 }
-    $4 + 0 < library[row] + 0 { library[row] = $4 }
-    $5 + 0 < plain[row] + 0 { plain[row] = $5 }
-    END {
-        for (i = 1; i <= n; i++)
-            printf "|%s|%s|%s| %5.2f |\n", rows[i], library[rows[i]], plain[rows[i]], library[rows[i]] / plain[rows[i]]
-    }' "$out"/rare-{16,32,48,64}.txt
+beside_plain rare
 
 echo
 echo "Microseconds a resize, best of all runs:"
 echo
-for place in 16 32 48 64; do
-    "$out/resize-$place" > "$out/resize-$place.txt"
-done
-awk -F'|' '
-    FNR < 3 { if (NR == FNR) print; next }
-    { row = $2 "|" $3 "|" $4 }
-    !(row in library) { rows[++n] = row; library[row] = $5; plain[row] = $6 }
-    $5 + 0 < library[row] + 0 { library[row] = $5 }
-    $6 + 0 < plain[row] + 0 { plain[row] = $6 }
-    END {
-        for (i = 1; i <= n; i++)
-            printf "|%s|%s|%s| %5.2f |\n", rows[i], library[rows[i]], plain[rows[i]], library[rows[i]] / plain[rows[i]]
-    }' "$out"/resize-{16,32,48,64}.txt
+beside_plain resize
 
 echo
 echo "Nanoseconds a call for a key's store, best of all runs:"
@@ -120,18 +116,7 @@ awk -F'|' '
 echo
 echo "Nanoseconds a call at the end of an epoch, best of all runs:"
 echo
-for place in 16 32 48 64; do
-    "$out/scale-$place" > "$out/scale-$place.txt"
-done
-awk -F'|' '
-    FNR < 3 { if (NR == FNR) print; next }
-    !($2 in library) { rows[++n] = $2; library[$2] = $3; plain[$2] = $4 }
-    $3 + 0 < library[$2] + 0 { library[$2] = $3 }
-    $4 + 0 < plain[$2] + 0 { plain[$2] = $4 }
-    END {
-        for (i = 1; i <= n; i++)
-            printf "|%s|%s|%s| %5.2f |\n", rows[i], library[rows[i]], plain[rows[i]], library[rows[i]] / plain[rows[i]]
-    }' "$out"/scale-{16,32,48,64}.txt
+beside_plain scale
 
 echo
 echo "Nanoseconds an order test in plain C, by the width of a record:"

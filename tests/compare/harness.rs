@@ -337,25 +337,20 @@ impl<'a> Both<'a> {
         let expected = self.model.call(lent, call, path).number();
         let found = library(&mut self.librarys, call, picture.as_ref());
 
-        let mut different = Vec::new();
-        if found != expected {
-            different.push(format!("returned {found}, the model {expected}"));
-        }
-        let models = self.models.named();
-        for ((name, models), (_, librarys)) in models.into_iter().zip(self.librarys.named()) {
-            different.extend(difference(name, models, librarys));
-        }
+        let mut different = self.differences();
         if let (Some(picture), Some(before)) = (&picture, &picture_before) {
             different.extend(difference("picture", before, picture));
         }
-        if different.is_empty() {
-            return Ok(found);
-        }
-        Err(format!(
-            "difference: {}\n{}",
-            different.join("; "),
-            describe(&before, call)
-        ))
+        judged(found, expected, different, || describe(&before, call))
+    }
+
+    /// What differs between the model's memory and the library's.
+    fn differences(&self) -> Vec<String> {
+        let models = self.models.named().into_iter();
+        models
+            .zip(self.librarys.named())
+            .filter_map(|((name, models), (_, librarys))| difference(name, models, librarys))
+            .collect()
     }
 }
 
@@ -385,26 +380,19 @@ pub fn resize(source: &mut Both, target: &mut Both, path: &mut Path) -> Result<u
         )
     };
 
-    let mut different = Vec::new();
-    if found != expected {
-        different.push(format!("returned {found}, the model {expected}"));
-    }
-    for (of, both) in [("target", &*target), ("source", &*source)] {
-        let models = both.models.named();
-        for ((name, models), (_, librarys)) in models.into_iter().zip(both.librarys.named()) {
-            let own = difference(name, models, librarys);
-            different.extend(own.map(|text| format!("{of}'s {text}")));
-        }
-    }
-    if different.is_empty() {
-        return Ok(found);
-    }
-    Err(format!(
-        "difference: {}\n  resize, the source\n{}\n  and the target\n{}",
-        different.join("; "),
-        describe_memory(&before.0),
-        describe_memory(&before.1)
-    ))
+    let different = [("target", &*target), ("source", &*source)]
+        .into_iter()
+        .flat_map(|(of, both)| {
+            let own = both.differences().into_iter();
+            own.map(move |text| format!("{of}'s {text}"))
+        });
+    judged(found, expected, different, || {
+        format!(
+            "  resize, the source\n{}\n  and the target\n{}",
+            describe_memory(&before.0),
+            describe_memory(&before.1)
+        )
+    })
 }
 
 /// Asks the library and the model which store a key at this position is fetched from, each lent the
@@ -432,20 +420,14 @@ pub fn store(
     // SAFETY: each pointer is good for its length, or the length is 0. The two do not overlap.
     let found = unsafe { cot_store(points, p, position, lent, s) };
 
-    let mut different = Vec::new();
-    if found != expected {
-        different.push(format!("returned {found}, the model {expected}"));
-    }
-    different.extend(difference("store", &models_store, &librarys_store));
-    different.extend(difference("ring", &models_ring, &librarys_ring));
-    if different.is_empty() {
-        return Ok((found, librarys_store.bytes().to_vec()));
-    }
-    Err(format!(
-        "difference: {}\n{}",
-        different.join("; "),
+    let different = [
+        difference("store", &models_store, &librarys_store),
+        difference("ring", &models_ring, &librarys_ring),
+    ];
+    judged(found, expected, different.into_iter().flatten(), || {
         describe_ring(ring, position, store)
-    ))
+    })?;
+    Ok((found, librarys_store.bytes().to_vec()))
 }
 
 /// Asks the library and the model what to do at the end of an epoch, each lent the same lookups and
@@ -485,19 +467,32 @@ pub fn scale(
         )
     };
 
-    let mut different = Vec::new();
-    if found != expected {
-        different.push(format!("returned {found}, the model {expected}"));
-    }
-    different.extend(difference("out", &models_out, &librarys_out));
-    different.extend(difference("lookups", &models_lookups, &librarys_lookups));
+    let different = [
+        difference("out", &models_out, &librarys_out),
+        difference("lookups", &models_lookups, &librarys_lookups),
+    ];
+    judged(found, expected, different.into_iter().flatten(), || {
+        describe_epoch(epoch, out)
+    })?;
+    Ok((found, librarys_out.bytes().to_vec()))
+}
+
+/// The library's number, if it is the model's and no byte differs, or what differs, and where.
+fn judged(
+    found: u64,
+    expected: u64,
+    different: impl IntoIterator<Item = String>,
+    describe: impl FnOnce() -> String,
+) -> Result<u64, String> {
+    let returned = (found != expected).then(|| format!("returned {found}, the model {expected}"));
+    let different: Vec<String> = returned.into_iter().chain(different).collect();
     if different.is_empty() {
-        return Ok((found, librarys_out.bytes().to_vec()));
+        return Ok(found);
     }
     Err(format!(
         "difference: {}\n{}",
         different.join("; "),
-        describe_epoch(epoch, out)
+        describe()
     ))
 }
 

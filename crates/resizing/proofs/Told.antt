@@ -19,7 +19,7 @@ module _ (source target : HostMemory) (bytes : IsBytes target.gauge) where
   good h = sizes_good h.table h.lines
 
   pub host_resize : exported_resize source target ≡ resize_told source target
-  unfolding exported_resize hosted_resize resize_outcome resize_verdict verdict gauge_test sizes_test order_test serial_test serial_good unless completion_number number held stored
+  unfolding exported_resize hosted_resize resize_outcome resize_verdict verdict gauge_test sizes_test order_test serial_test unless completion_number number held stored
   host_resize =
       go (sized source) (sized target) (good source) (good target) (order_good (held source)) (serial_good (held source))
       refl refl refl refl refl refl

@@ -1,5 +1,5 @@
 -- Tables that follow the trade: a table, its gauge and its lines are copied into others of another K and C (document 02).
-use Rattle.std.specs.Prelude.{ℕ, zero, suc, ◌+◌, ◌-◌, min, List, [], ◌∷◌, ltb, if◌then◌else◌, Some, None, Ok}
+use Rattle.std.specs.Prelude.{ℕ, zero, suc, ◌+◌, ◌-◌, min, List, [], ◌∷◌, if◌then◌else◌, Some, None, Ok}
 use Rattle.std.proofs.Math.Option.{none}
 use Rattle.rules.specs.declared.Record.{Record}
 use Rattle.rules.specs.Bytes.{line_at, put_line, put_gauge}
@@ -145,8 +145,7 @@ exported_resize source target =
 abbrev pub host_left : HostMemory → Memory → HostMemory
 host_left target m = host_lent m.table (put_gauge target.gauge m.gauge) m.lines
 
--- | Refusal 1 applies to source or target sizes, 3 and 10 to the source, and they leave both. .. 10, .. when the serial is
--- | 9,223,372,036,854,775,808 or more
+-- | Refusal 1 applies to source or target sizes, 3 and 10 to the source, and they leave both.
 abbrev pub resize_told : HostMemory → HostMemory → Outcome ℕ HostMemory
 resize_told source target =
     unless
@@ -156,7 +155,7 @@ resize_told source target =
     ∷ sizes_test (held source)
     ∷ sizes_test (held target)
     ∷ order_test (held source)
-    ∷ serial_test (ltb (held source).gauge.serial 9223372036854775808)
+    ∷ serial_test (serial_good (held source))
     ∷ []))
     (λ cause. outcome (number cause) target)
     (outcome 0 (host_left target (resize_steps (held source) (held target))))
