@@ -1,11 +1,11 @@
 -- The laws of bytes written into a buffer: what is written after what was written joins it, and what stands in front of the end.
 -- Assumes nothing.
-use Prim.Native.Nat.{ℕ, ◌+◌, ◌≤◌}
+use Prim.Native.Nat.{ℕ, suc, ◌+◌, ◌≤◌, ◌<◌}
 use mathlib.Core.List.{List, [], ◌∷◌, ◌++◌, append_assoc, append-nil}
 use mathlib.Core.Path.{◌≡◌, refl}
 use native.Mathlib.Omega.{arith}
-use lib.ListN.{length, take, drop, length-append, length-take, take-append-drop}
-use lib.Seq.{take_at, drop-append-add, drop-drop}
+use lib.ListN.{length, take, drop, set, length-append, length-take, take-append-drop}
+use lib.Seq.{take_at, drop-append-add, drop-drop, set_split}
 use Rattle.rules.specs.Journal.{Row, printed, printed_all}
 use Rattle.rows.specs.Written.{written}
 
@@ -13,6 +13,10 @@ use Rattle.rows.specs.Written.{written}
 pub written_none : (out : List ℕ) (at : ℕ) → written out at [] ≡ out
 unfolding written
 written_none out at = grind (arith, take-append-drop)
+
+pub written_one : (out : List ℕ) (at v : ℕ) → at < length out → set out at v ≡ written out at (v ∷ [])
+unfolding written
+written_one out at v room = let e : at + 1 ≡ suc at = omega arith in rw e (set_split out at v room)
 
 module _ (out : List ℕ) (at : ℕ) (a : List ℕ) (room : at + length a ≤ length out) where
   front_length : length (take at out ++ a) ≡ at + length a
