@@ -6,16 +6,8 @@
 set -eu
 cd "$(dirname "$0")/.."
 
-program=crates/replay/out/replay
-out=target/tests
-mkdir -p "$out"
-if [ ! -x "$program" ]; then
-    echo "30_replay: $program is not there; building it takes a while"
-    (cd crates/replay && rt run <stdin) >"$out/replay.log" 2>&1 || {
-        tail -n 40 "$out/replay.log" >&2
-        exit 1
-    }
-fi
+name=replay
+. tests/program
 
 rustc -O --edition 2021 -D warnings -o "$out/replay" tests/replay/main.rs
 "$out/replay" "$program"

@@ -1,20 +1,12 @@
 #!/bin/sh
 # Runs the program exercise where its output cannot be written: to a full device, to a descriptor
-# that is closed or only read, and to a pipe whose reader is gone. Each run has to end by itself
+# that is closed or only read, to a pipe whose reader is gone, over a file's limit. Each run has to end by itself
 # with status 0 and without a word of its own; so has one whose output is good, which rt ci compares.
 set -eu
 cd "$(dirname "$0")/.."
 
-program=crates/exercise/out/exercise
-out=target/tests
-mkdir -p "$out"
-if [ ! -x "$program" ]; then
-    echo "50_exercise: $program is not there; building it takes a while"
-    (cd crates/exercise && rt run) >"$out/exercise.log" 2>&1 || {
-        tail -n 40 "$out/exercise.log" >&2
-        exit 1
-    }
-fi
+name=exercise
+. tests/program
 
 # Reads the status that a run of the program left in a file, and what it said besides.
 ended() {
@@ -27,6 +19,7 @@ ended() {
 }
 
 run() {
+    rm -f "$out/exercise.status"
     status=0
     timeout 60 "$program" 2>"$out/exercise.err" || status=$?
     echo "$status" >"$out/exercise.status"
@@ -43,3 +36,5 @@ run 1<crates/exercise/stdout
 ended "output that is only read"
 (trap '' PIPE; { sleep 1; run; } | true)
 ended "reader gone, its signal ignored"
+(trap '' XFSZ; ulimit -f 1; run >"$out/exercise.out")
+ended "file size limit, its signal ignored"

@@ -82,7 +82,7 @@ impl fmt::Display for Bytes<'_> {
 }
 
 // Where it is printed: standard output, as far as that takes it. A print that fails is passed over and the next one tried, so that the
-// program ends with 0 whatever becomes of its output.
+// program ends with 0 wherever a write fails.
 #[derive(Drop)]
 struct Tried<'a, P>(&'a P);
 

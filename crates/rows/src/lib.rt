@@ -29,7 +29,7 @@ impl Rows<'_> {
         self.end = end;
     }
 
-    // Writes one byte. (By itself, since a slice of one byte is copied by a call, with which `replay` takes a tenth longer and more.)
+    // Writes one byte. (By itself, and not as a slice of one, since digits are most of what `replay` does.)
     fn put_byte(&mut self, byte: u8)
         requires { HasRoom self.old 1 }
         ensures { Puts self.old (byte ∷ []) self.new }
