@@ -1,7 +1,7 @@
 #!/bin/sh
 # Runs the program exercise where its output cannot be written: to a full device, to a descriptor
-# that is closed or only read, to a pipe whose reader is gone, over a file's limit. Each run has to end by itself
-# with status 0 and without a word of its own; so has one whose output is good, which rt ci compares.
+# that is closed or only read, to a pipe whose reader is gone, over a file's limit. Each run has to
+# end by itself with status 0 and without a word of its own; so has one whose output is good.
 set -eu
 cd "$(dirname "$0")/.."
 
